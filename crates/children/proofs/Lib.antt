@@ -1,0 +1,4 @@
+pub mod Births
+pub mod Children
+pub mod Links
+pub mod Walks
