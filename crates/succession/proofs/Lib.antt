@@ -1,0 +1,5 @@
+pub mod Lines
+pub mod Grandparents
+pub mod Inheriting
+pub mod Spouses
+pub mod Settling
