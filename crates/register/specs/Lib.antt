@@ -1,0 +1,4 @@
+pub mod Desks
+pub mod Refusals
+pub mod Service
+pub mod Stores
