@@ -1,4 +1,6 @@
 // What lines come to, worked out by visiting each person once: the laws of passes along a listing of the persons. Each function has laws for its contract, and answers 0.
+#![tactic(auto)]
+
 ghost use Rattle.amounts.specs.Statements.{ListingGrows, MetFromTwo, CountsRight, MultiplesRight, PiecesRight, NeverMore, ClearedRight, LimitsRight, StartsRight};
 ghost use Rattle.amounts.specs.Estates.{EstateByPasses};
 

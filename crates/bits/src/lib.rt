@@ -1,5 +1,7 @@
 // Sets of numbers as bits of words in lent memory: member p is bit p % 32 of word p / 32, from the place on where the set lies.
 // Each function says what it does by words, and in the clause `sets` of a set whose m words lie between others in memory.
+#![tactic(auto)]
+
 ghost use Rattle.std.specs.Prelude.{◌≡◌, ℕ, ◌+◌, ◌*◌, ◌/◌, ◌%◌, ◌<◌, ◌≤◌, Bool, List, ◌++◌, length, set, replicate, IfSome, slice_index, slice_set};
 ghost use Rattle.bits.specs.Sets.{bit_row, member_in, members, no_member, with_member, without_member};
 ghost use Rattle.bits.specs.Words.{inserted, removed};

@@ -1,6 +1,8 @@
 // Prints the lines that answer a file of calls, or calls on standard input. What it is run on here is data/family.calls: births with none, one and both
 // parents known, deaths and deaths twice, parents who are not there or are one person, numbers up to 2 to the 32nd less 1, a wedding, a parting, an
 // estate, and a birth that the end cuts off.
+#![tactic(auto)]
+
 use std::alloc::AllocError;
 use std::io::Read;
 use std::{env, fmt, fs, io};

@@ -1,4 +1,6 @@
 // The persons of a register by value, read from its words.
+#![tactic(auto)]
+
 ghost use Rattle.std.specs.Prelude.{◌≡◌, IfOk};
 ghost use Rattle.theory.specs.Families.{WellFormed};
 ghost use Rattle.people.specs.Layout.{family_in, Roomy, Valid};

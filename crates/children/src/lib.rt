@@ -1,6 +1,8 @@
 // Who somebody's children are, as links in lent words. Each person has four: the first child, the last child, the next child of the mother behind this one, and
 // the next of the father; each is 0 where there is nobody, else one more than a number. A person may be the mother of one child and the father of another, so which
 // link leads on is asked of each child again.
+#![tactic(auto)]
+
 ghost use Rattle.std.specs.Prelude.{◌≡◌, ◌+◌, ◌*◌, ◌<◌, ◌≤◌, length, slice_index, slice_set};
 ghost use Rattle.children.specs.Links.{next_place, end_place, appended};
 

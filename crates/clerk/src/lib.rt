@@ -1,4 +1,6 @@
 // Who would inherit what, of a family in a text.
+#![tactic(auto)]
+
 ghost use Rattle.std.specs.Prelude.{◌≡◌, ◌<◌, ◌≤◌, [], ◌++◌, map, length, IfSome, IfOk, Some, string_bytes, OnOk, slice_index_or};
 ghost use Rattle.std.specs.List.{flat_map, AllByRecursion as All};
 ghost use Rattle.law.specs.Calls.{born, shares, estate_of};

@@ -1,5 +1,7 @@
 // Going down a line of descent with one by so many of an estate: who lives has it, else the children whose lines live have it in equal parts.
 // The parts are put behind one another in the work area of the register's memory.
+#![tactic(auto)]
+
 ghost use Rattle.std.specs.Prelude.{◌≡◌, ℕ, ◌+◌, ◌*◌, ◌<◌, ◌≤◌, Bool, List, [], ◌∷◌, length, filter, MatchOption};
 ghost use Rattle.law.specs.Family.{Family, Part as LawPart, children, line_parts};
 ghost use Rattle.living.specs.Places.{Held};

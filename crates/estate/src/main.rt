@@ -1,5 +1,7 @@
 // Prints who would inherit what if somebody of a family in a file died now. What it is run on here is data/family.txt: Frieda and Hans, who are dead, were
 // cousins and married, so that their children Ida and Jürgen inherit of their great-grandmother Anna by two lines, and Frieda's daughter Lena by one.
+#![tactic(auto)]
+
 use clerk::Refusal;
 use std::alloc::AllocError;
 use std::{env, fmt, fs, io};

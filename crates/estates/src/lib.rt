@@ -1,4 +1,6 @@
 // The shares of an estate, by passes along the living lines that visit each person a bounded number of times.
+#![tactic(auto)]
+
 ghost use Rattle.std.specs.Prelude.{◌≡◌, ℕ, ◌+◌, ◌*◌, ◌<◌, ◌≤◌, not, ◌&&◌, List, length, get_or, IfSome, if◌then◌else◌, Some, None, sum, MatchOption, ◌==◌, nat_le, slice_index_or};
 ghost use Rattle.std.specs.List.{AllByRecursion as All};
 ghost use Rattle.law.specs.Family.{Family, Part as LawPart};

@@ -1,5 +1,7 @@
 // The register for programs in C and Rust: functions of a static library over memory that the caller lends. A slice is a pointer and then its length.
 // Each gives one signed number: a length, or -(refusal * 2^32 + place). None asks for anything of what the memory holds.
+#![tactic(auto)]
+
 ghost use Rattle.std.specs.Prelude.{◌≡◌, ℕ, ◌<◌, ◌≤◌, length, pos};
 ghost use Rattle.wire.specs.Bytes.{read};
 ghost use Rattle.people.specs.Layout.{limit_in, Roomy, Sound};

@@ -1,4 +1,6 @@
 // Whether lent words are those of a register: each word is compared with what it should be for the family that the persons' words tell of.
+#![tactic(auto)]
+
 ghost use Rattle.std.specs.Prelude.{◌≡◌, ℕ, ◌+◌, ◌-◌, ◌*◌, ◌<◌, ◌≤◌, Bool, true, cond, ◌&&◌, ◌⊎◌, List, length, ◌==◌, nat_lt, slice_index};
 ghost use Rattle.law.specs.Family.{Family, person, is_child, children_in, children};
 ghost use Rattle.children.specs.Links.{first_of, last_of, behind, has_parent};

@@ -1,4 +1,6 @@
 // Why somebody has no share of an estate: of which lines they are, and who stands before them.
+#![tactic(auto)]
+
 ghost use Rattle.std.specs.Prelude.{◌≡◌, ℕ, ◌<◌, ◌≤◌, true, ◌≢◌, List, [], map, length, IfOk};
 ghost use Rattle.law.specs.Family.{person, order as law_order};
 ghost use Rattle.theory.specs.Families.{Ranked};

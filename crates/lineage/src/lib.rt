@@ -1,4 +1,6 @@
 // The laws of the ways of an estate, as chains of parent and child. Each function has laws for its contract, and answers 0.
+#![tactic(auto)]
+
 ghost use Rattle.lineage.specs.Chains.{WaysAreChains, ChainsAreWays, EachOnce};
 
 // Every way that is listed leads from its start to its heir, from parent to child, past nobody who lives.

@@ -1,4 +1,6 @@
 // Which lines of descent live, kept as bits as people are born and die: upward from the person, stopping where nothing changes.
+#![tactic(auto)]
+
 ghost use Rattle.std.specs.Prelude.{◌≡◌, ℕ, ◌+◌, ◌*◌, ◌<◌, ◌≤◌, Bool, List, length, IfSome, if◌then◌else◌, nat_eq};
 ghost use Rattle.law.specs.Family.{Family};
 ghost use Rattle.rows.specs.Tables.{Wide};

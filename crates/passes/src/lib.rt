@@ -1,5 +1,7 @@
 // Passes along living lines in a register's memory, each person visited once however many ways lead to them: the persons are listed, children before parents,
 // with how many parts each line has and the least number that these divide; then pieces are handed down along the list.
+#![tactic(auto)]
+
 ghost use Rattle.std.specs.Prelude.{◌≡◌, ℕ, suc, ◌+◌, ◌*◌, ◌<◌, ◌≤◌, Bool, List, ◌∷◌, length, drop, if◌then◌else◌, sum, filter, nat_eq, slice_index, slice_set};
 ghost use Rattle.law.specs.Family.{Family, Part as LawPart, children};
 ghost use Rattle.theory.specs.Living.{alive};

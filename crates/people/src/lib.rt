@@ -1,5 +1,7 @@
 // Persons and their children in lent words. The layout: a header of two words (the limit and the number of persons), a table of persons, four words each,
 // a table of the links to their children, four words each, the set of those whose lines live as bits, and words to work in.
+#![tactic(auto)]
+
 ghost use Rattle.std.specs.Prelude.{◌≡◌, ℕ, suc, ◌+◌, ◌*◌, ◌<◌, ◌≤◌, Bool, true, false, ◌⊎◌, List, [], ◌∷◌, ◌++◌, length, if◌then◌else◌, MatchOption, slice_index};
 ghost use Rattle.law.specs.Family.{Family, person, children};
 ghost use Rattle.law.specs.Calls.{newborn as law_newborn};

@@ -1,4 +1,6 @@
 // The lines that say why somebody has a share of an estate, by names or by numbers.
+#![tactic(auto)]
+
 ghost use Rattle.std.specs.Prelude.{◌≡◌, List, [], ◌∷◌, ◌++◌, map, string_bytes, OnOk};
 ghost use Rattle.std.specs.List.{flat_map};
 ghost use Rattle.theory.specs.Families.{WellFormed};

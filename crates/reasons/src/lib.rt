@@ -1,4 +1,6 @@
 // Why somebody has a share of an estate: the ways by which its parts come to them.
+#![tactic(auto)]
+
 ghost use Rattle.std.specs.Prelude.{◌≡◌, ℕ, suc, ◌+◌, ◌*◌, ◌<◌, ◌≤◌, Bool, true, false, List, [], ◌∷◌, ◌++◌, map, length, IfOk, if◌then◌else◌, vec_len, filter, OnOk, nat_eq, nat_le};
 ghost use Rattle.std.specs.List.{AllByRecursion as All};
 ghost use Rattle.law.specs.Family.{person, known, children as law_children, parents as law_parents, line_lives, order as law_order, has_living_spouse};

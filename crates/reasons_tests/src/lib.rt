@@ -1,4 +1,6 @@
 // Tests of the ways of estates, of why somebody has a share or none, and of the lines that say so.
+#![tactic(auto)]
+
 #[cfg(test)]
 mod tests {
     use people::Person;

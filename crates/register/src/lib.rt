@@ -1,4 +1,6 @@
 // A register of families in lent memory: each call is taken by the rules, or turned away with nothing changed.
+#![tactic(auto)]
+
 ghost use Rattle.std.specs.Prelude.{◌≡◌, ℕ, ◌+◌, ◌*◌, ◌<◌, ◌≤◌, true, false, List, length, Ok, Err, MatchOption, nat_lt};
 ghost use Rattle.law.specs.Calls.{born, dies};
 ghost use Rattle.law.specs.Promise.{Right, RefusalKeeps};

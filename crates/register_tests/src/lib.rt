@@ -1,4 +1,5 @@
 // Tests of the register by the bytes of calls and answers and by the words of its memory, in a crate of their own.
+#![tactic(auto)]
 
 #[cfg(test)]
 mod tests {

@@ -1,4 +1,6 @@
 // A register of families in lent memory: each call is taken by the rules, or turned away with nothing changed.
+#![tactic(auto)]
+
 ghost use Rattle.std.specs.Prelude.{◌≡◌, ℕ, ◌≤◌, List, length, Ok, Err};
 ghost use Rattle.law.specs.Promise.{Right, RefusalKeeps, without_marriages};
 ghost use Rattle.rows.specs.Written.{written};

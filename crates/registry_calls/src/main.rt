@@ -1,6 +1,8 @@
 // Prints the lines that answer a file of calls, or calls on standard input. What it is run on here is data/family.calls: the family of docs/RULES.md as
 // things happen in it; a child of cousins; grandparents on two sides; a dead brother's dead daughter's son; a great-grandson by two lines; weddings,
 // partings and widows; a spouse who is an heir by a line; every refusal; and a wedding that the end cuts off.
+#![tactic(auto)]
+
 use std::alloc::AllocError;
 use std::io::Read;
 use std::{env, fmt, fs, io};

@@ -1,4 +1,6 @@
 // Lent rows, and what is written over a part of them.
+#![tactic(auto)]
+
 ghost use Rattle.std.specs.Prelude.{◌≡◌, ◌+◌, ◌≤◌, length, replicate};
 ghost use Rattle.rows.specs.Written.{written};
 

@@ -1,5 +1,7 @@
 // From a row of parts of an estate to the shares of the heirs.
 // The work area that is lent for it has words for the parts, a set of heirs as bits, and a word for the pieces of each person.
+#![tactic(auto)]
+
 ghost use Rattle.std.specs.Prelude.{◌≡◌, ℕ, ◌+◌, ◌*◌, ◌/◌, ◌<◌, ◌≤◌, List, [], map, length};
 ghost use Rattle.std.specs.List.{AllByRecursion as All};
 ghost use Rattle.bits.specs.Sets.{no_member};

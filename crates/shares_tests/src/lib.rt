@@ -1,4 +1,6 @@
 // Tests of the shares of an estate, in a crate of their own.
+#![tactic(auto)]
+
 ghost use Rattle.std.specs.Prelude.{◌+◌, ◌*◌, ◌<◌, ◌≤◌, length};
 
 #[cfg(test)]

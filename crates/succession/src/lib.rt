@@ -1,4 +1,6 @@
 // Who inherits: the lines of children, else of parents, else of grandparents by the mother's and the father's side, and a spouse beside them.
+#![tactic(auto)]
+
 ghost use Rattle.std.specs.Prelude.{◌≡◌, ℕ, ◌+◌, ◌*◌, ◌<◌, ◌≤◌, Bool, List, [], length, IfSome, if◌then◌else◌, filter, MatchOption};
 ghost use Rattle.law.specs.Family.{Family, Part as LawPart, person, known, couple_parts, side_lives};
 ghost use Rattle.theory.specs.Decedent.{kept_order, kept_relatives, kept_estate};

@@ -1,4 +1,6 @@
 // Families as text: a line for each person.
+#![tactic(auto)]
+
 ghost use Rattle.std.specs.Prelude.{◌≡◌, ◌<◌, ◌≤◌, not, ◌&&◌, [], ◌++◌, map, length, IfSome, IfOk, Ok, string_bytes, OnOk, ◌==◌};
 ghost use Rattle.std.specs.Option.{option_map};
 ghost use Rattle.people.specs.Persons.{law_person};

@@ -1,4 +1,5 @@
 // Tests of families as text and of the estates that are printed of them, in a crate of their own.
+#![tactic(auto)]
 
 #[cfg(test)]
 mod tests {

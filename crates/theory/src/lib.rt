@@ -1,4 +1,6 @@
 // The laws of families, estates and shares. Each function has laws for its contract, and answers 0.
+#![tactic(auto)]
+
 ghost use Rattle.law.specs.Promise.{AddsUp, OnlyLiving, DeadLines, StandsFor, NearerFirst, JustOne};
 ghost use Rattle.theory.specs.Families.{ReachedWellFormed};
 ghost use Rattle.theory.specs.Living.{LivingLinesAreOneSet};

@@ -1,4 +1,6 @@
 // Prints how long a birth and a death take in registers of some families. Without an argument it does nothing.
+#![tactic(auto)]
+
 use register::session::Register;
 use register::store::Store;
 use std::alloc::AllocError;

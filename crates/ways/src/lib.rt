@@ -1,4 +1,6 @@
 // The ways by which an estate comes to its heirs, of a family that is given as a row of persons: every part with the line of descent by which it came.
+#![tactic(auto)]
+
 ghost use Rattle.std.specs.Prelude.{◌≡◌, ℕ, suc, ◌+◌, ◌*◌, ◌<◌, ◌≤◌, Bool, true, false, ◌&&◌, ◌⊎◌, List, [], ◌∷◌, ◌++◌, map, length, IfOk, if◌then◌else◌, vec_len, filter, MatchOption, ◌==◌};
 ghost use Rattle.std.specs.List.{range_with_len};
 ghost use Rattle.law.specs.Family.{person, is_child as law_is_child, children, some_of, line_lives};

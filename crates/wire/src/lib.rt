@@ -1,4 +1,6 @@
 // Calls and answers as bytes.
+#![tactic(auto)]
+
 ghost use Rattle.std.specs.Prelude.{◌≡◌, ◌+◌, ◌*◌, ◌<◌, ◌≤◌, [], ◌∷◌, map, length, if◌then◌else◌, Some, None, nat_lt, slice_index};
 ghost use Rattle.rows.specs.Written.{written};
 ghost use Rattle.law.specs.Calls.{refused, number, shares};
