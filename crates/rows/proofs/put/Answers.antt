@@ -9,6 +9,6 @@ returns g c =
     let many = at + length c.args.items.now - at in
     record {
       left =
-          ap (put_mid at many c.args.row.now) c.copy-from-slice.ensures.after
+          ap (put_mid at many c.args.row.now) c.copy_from_slice.ensures.after
           ∙ put_written at many c.args.items.now c.args.row.now (omega arith) (omega arith);
     }

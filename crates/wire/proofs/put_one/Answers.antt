@@ -4,4 +4,4 @@ use Rattle.wire.proofs.Bytes.{one_written}
 use Rattle.wire.proofs.put_one.Goals as goal
 
 pub returns : goal.returns
-returns c = record { left = c.put-word.ensures.left ∙ one_written c.args.kind c.args.value c.args.out.now }
+returns c = record { left = c.put_word.ensures.left ∙ one_written c.args.kind c.args.value c.args.out.now }

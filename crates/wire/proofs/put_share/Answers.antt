@@ -11,5 +11,5 @@ returns c =
     let out = c.args.out.now in
     let n = length out - 5 in
     let bs = share_bytes (law_share c.args.share) in
-    let e : c.write-share.new.part ≡ written (20 * c.args.index) bs (take n (drop 5 out)) = c.write-share.ensures.left in
+    let e : c.write_share.new.part ≡ written (20 * c.args.index) bs (take n (drop 5 out)) = c.write_share.ensures.left in
     record { left = ap (put_mid 5 n out) e ∙ rest_written 5 n (20 * c.args.index) bs out (omega arith) }

@@ -16,7 +16,7 @@ loop-i-preserved c = λ out e.
     let i = c.loop-i.i in
     let many = length-map hs law_share in
     let none : Share = record { who = 0; up = 0; down = 0 } in
-    c.put-share.ensures.left
+    c.put_share.ensures.left
     ∙ (ap (written (5 + 20 * i) (share_bytes (law_share (get_or hs i none)))) (c.loop-i.invariant out e)
     ∙ (ap (λ s. written (5 + 20 * i) (share_bytes s) (written 0 (shares_begun (length hs) (take i (map law_share hs))) out)) (sym (get_or-map law_share hs i none (law_share none) (omega arith)))
     ∙ begun_more (length hs) i (map law_share hs) (law_share none) out (omega arith)))
@@ -27,7 +27,7 @@ returns c =
     let many = length-map hs law_share in
     record {
       left =
-          c.loop-i.invariant c.args.out.now c.put-count.ensures.left
+          c.loop-i.invariant c.args.out.now c.put_count.ensures.left
           ∙ (ap (λ k. written 0 (shares_begun k (take c.loop-i.i (map law_share hs))) c.args.out.now) (sym many)
           ∙ begun_all c.loop-i.i (map law_share hs) c.args.out.now (omega arith));
     }

@@ -9,6 +9,6 @@ pub returns : goal.returns
 returns c =
     record {
       left =
-          c.put-word.ensures.left
-          ∙ (ap (written 5 (le4 c.args.second)) c.put-one.ensures.left ∙ two_written c.args.kind c.args.first c.args.second c.args.out.now);
+          c.put_word.ensures.left
+          ∙ (ap (written 5 (le4 c.args.second)) c.put_one.ensures.left ∙ two_written c.args.kind c.args.first c.args.second c.args.out.now);
     }

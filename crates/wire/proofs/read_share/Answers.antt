@@ -10,7 +10,7 @@ returns-then-index-count c =
     let bs = c.args.bytes.now in
     let n = c.in-Shares.count in
     let i = c.args.index in
-    let e = shares_told bs c.in-ok-count.field-0 n c.in-Shares.is c.in-ok-count.ensures.value in
+    let e = shares_told bs c.in_ok-count.field-0 n c.in-Shares.is c.in_ok-count.ensures.value in
     record { value = sym (slice_get_past (shares_from bs 5 n) i (omega (arith, length_from bs 5 n))) ∙ ap (λ a. share_in a i) e }
 
 pub share-at-requires : goal.share-at-requires
@@ -25,5 +25,5 @@ returns c =
     let bs = c.args.bytes.now in
     let n = c.in-Shares.count in
     let i = c.args.index in
-    let e = shares_told bs c.in-ok-count.field-0 n c.in-Shares.is c.in-ok-count.ensures.value in
+    let e = shares_told bs c.in_ok-count.field-0 n c.in-Shares.is c.in_ok-count.ensures.value in
     record { value = ap Some c.share_at.ensures.value ∙ (sym (nth_from bs 5 n i (omega arith)) ∙ ap (λ a. share_in a i) e) }
