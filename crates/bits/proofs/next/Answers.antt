@@ -15,12 +15,12 @@ module _ (memory : List ℕ) (at from end : ℕ) (xs : List ℕ) (e : xs ≡ mem
   by_sets front rest m s held first h =
       ap (λ (ys : List ℕ). slice_get ys 0) (e ∙ members_among memory front rest m s at held first from end h)
 
-pub overflow-add-q : goal.overflow-add-q
-overflow-add-q c =
+pub overflow_add-q : goal.overflow_add-q
+overflow_add-q c =
     let memory = c.args.memory.now in
     let at = c.args.at in
     let p = c.loop-p.p in
-    let fits : get_or memory (at + p / 32) 0 < 2 ^ 32 = omega (arith, c.type-inv.memory (at + p / 32)) in
+    let fits : get_or memory (at + p / 32) 0 < 2 ^ 32 = omega (arith, c.type_inv.memory (at + p / 32)) in
     omega (arith, lowest_near memory at p fits c.if-word-ne0.true)
 
 pub returns-then-q-end : goal.returns-then-q-end
@@ -30,7 +30,7 @@ returns-then-q-end c =
     let p = c.loop-p.p in
     let end = c.args.end in
     let q = p + count_trailing_zeros 32 (get_or memory (at + p / 32) 0 / 2 ^ (p % 32)) in
-    let fits : get_or memory (at + p / 32) 0 < 2 ^ 32 = omega (arith, c.type-inv.memory (at + p / 32)) in
+    let fits : get_or memory (at + p / 32) 0 < 2 ^ 32 = omega (arith, c.type_inv.memory (at + p / 32)) in
     let found : q ∷ members (member_in memory at) (q + 1) end ≡ members (member_in memory at) c.args.from end =
     sym (members_more (member_in memory at) q end c.if-q-end.true (lowest_member memory at p fits c.if-word-ne0.true))
     ∙ (sym (this_word memory at p fits c.if-word-ne0.true end) ∙ c.loop-p.invariant)
@@ -45,7 +45,7 @@ returns-else-q-end c =
     let p = c.loop-p.p in
     let end = c.args.end in
     let q = p + count_trailing_zeros 32 (get_or memory (at + p / 32) 0 / 2 ^ (p % 32)) in
-    let fits : get_or memory (at + p / 32) 0 < 2 ^ 32 = omega (arith, c.type-inv.memory (at + p / 32)) in
+    let fits : get_or memory (at + p / 32) 0 < 2 ^ 32 = omega (arith, c.type_inv.memory (at + p / 32)) in
     let none : [] ≡ members (member_in memory at) c.args.from end =
     sym (members_past (member_in memory at) q end c.if-q-end.false)
     ∙ (sym (this_word memory at p fits c.if-word-ne0.true end) ∙ c.loop-p.invariant)

@@ -15,7 +15,7 @@ loop-who-preserved c =
     let ws = c.args.memory.now in
     let g : ℕ → Person = λ p. person_at ws (2 + 4 * p) in
     let i = c.loop-who.who in
-    ap family_of c.in-ok-push.ensures.items
+    ap family_of c.in_ok-push.ensures.items
     ∙ map-append law_person (vec_items c.loop-who.persons) (c.read.result ∷ [])
     ∙ ap (λ (ps : List Person). ps ++ (law_person c.read.result ∷ [])) c.loop-who.invariant
     ∙ ap (λ (p : Person). map g (range_with_len 0 i) ++ (p ∷ [])) c.read.ensures.value

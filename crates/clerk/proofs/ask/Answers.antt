@@ -18,8 +18,8 @@ asked : (who : ℕ) → who < 4294967296 → estate_of who ≡ read (call_bytes 
 unfolding call_number
 asked who h = sym (calls_read_back (estate_of who) (omega arith) (h, tt)).0
 
-pub slice-bounds-put-answer-end : goal.slice-bounds-put-answer-end
-slice-bounds-put-answer-end c =
+pub slice_bounds-put_answer-end : goal.slice_bounds-put_answer-end
+slice_bounds-put_answer-end c =
     let register = c.args.register.now in
     let store = register.store.now in
     let who = c.args.who in
@@ -49,6 +49,6 @@ returns c =
     in
     record {
       lines =
-          same_text c.put-answer.result (string_bytes c.put-answer.new.text) (string_bytes c.args.text.now) (named_maybe ns (answer_read (take (size - 0) bytes)))
-          (named_text ns (says before (estate_of who))) (ap (named_maybe ns) back ∙ ap (λ (q : Call). named_text ns (says before q)) (sym e)) c.put-answer.ensures.lines;
+          same_text c.put_answer.result (string_bytes c.put_answer.new.text) (string_bytes c.args.text.now) (named_maybe ns (answer_read (take (size - 0) bytes)))
+          (named_text ns (says before (estate_of who))) (ap (named_maybe ns) back ∙ ap (λ (q : Call). named_text ns (says before q)) (sym e)) c.put_answer.ensures.lines;
     }

@@ -15,18 +15,18 @@ rightly : (bs n : List ℕ) → AnsweredRightly bs n
 unfolding AnsweredRightly
 rightly bs n h p e q = answer_right family_limits h.family (estate_of p)
 
-pub returns-in-err-family : goal.returns-in-err-family
-returns-in-err-family c =
-    record { lines = IfOk-from_err c.from-residual.result _ c.from-residual.ensures.0; right = rightly c.args.input.now c.args.name.now }
+pub returns-in_err-family : goal.returns-in_err-family
+returns-in_err-family c =
+    record { lines = IfOk-from_err c.from_residual.result _ c.from_residual.ensures.0; right = rightly c.args.input.now c.args.name.now }
 
 pub returns-in-Ok : goal.returns-in-Ok
 unfolding estate_text
 returns-in-Ok c =
-    let read = ap (told household) (sym c.in-Ok.is) ∙ c.in-ok-family.ensures.value in
+    let read = ap (told household) (sym c.in-Ok.is) ∙ c.in_ok-family.ensures.value in
     record { lines = IfOk-weaker c.estate_of.result _ _ (λ x e. e ∙ ap (λ (r : Result Household Fault). estate_from r c.args.name.now) read) c.estate_of.ensures.lines; right = rightly c.args.input.now c.args.name.now }
 
 pub returns-in-Err : goal.returns-in-Err
 unfolding estate_text
 returns-in-Err c =
-    let read = ap (told household) (sym c.in-Err.is) ∙ c.in-ok-family.ensures.value in
+    let read = ap (told household) (sym c.in-Err.is) ∙ c.in_ok-family.ensures.value in
     record { lines = ap (λ (r : Result Household Fault). estate_from r c.args.name.now) read; right = rightly c.args.input.now c.args.name.now }

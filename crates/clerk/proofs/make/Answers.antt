@@ -21,7 +21,7 @@ returns c =
     let size = c.in-Some.size in
     let before = memory_of c.args.register.now in
     let lent = bytes_in c.args.register.now.store.now in
-    let back = call_back c.args.request nine c.put-call.new.out size (size - 0) refl c.requires.fits c.in-Some.ensures.left c.in-Some.ensures.value (omega arith) in
+    let back = call_back c.args.request nine c.put_call.new.out size (size - 0) refl c.requires.fits c.in-Some.ensures.left c.in-Some.ensures.value (omega arith) in
     record {
       left = c.call.ensures.left ∙ ap (next before) back;
       said = c.call.ensures.said ∙ ap (λ (q : Call). written 0 (answer_bytes (says before q)) lent) back;

@@ -15,9 +15,9 @@ returns c =
     let m = memory_of c.args.register.now in
     record {
       left =
-          c.make-deaths.ensures.left
-          ∙ (ap (λ (u : Memory). left_by (desk []) u (deaths 0 f)) (c.make-weddings.ensures.left ∙ ap (λ (u : Memory). left_by (desk []) u (weddings 0 f)) c.make-births.ensures.left)
+          c.make_deaths.ensures.left
+          ∙ (ap (λ (u : Memory). left_by (desk []) u (deaths 0 f)) (c.make_weddings.ensures.left ∙ ap (λ (u : Memory). left_by (desk []) u (weddings 0 f)) c.make_births.ensures.left)
           ∙ (sym (left_then (left_by (desk []) m (births f)) (weddings 0 f) (deaths 0 f)) ∙ sym (left_then m (births f) (weddings 0 f ++ deaths 0 f))));
-      words = c.make-deaths.ensures.words ∙ (c.make-weddings.ensures.words ∙ c.make-births.ensures.words);
-      bytes = c.make-deaths.ensures.bytes ∙ (c.make-weddings.ensures.bytes ∙ c.make-births.ensures.bytes);
+      words = c.make_deaths.ensures.words ∙ (c.make_weddings.ensures.words ∙ c.make_births.ensures.words);
+      bytes = c.make_deaths.ensures.bytes ∙ (c.make_weddings.ensures.bytes ∙ c.make_births.ensures.bytes);
     }

@@ -14,8 +14,8 @@ returns-then-count-eq0 c =
     let ss = shares_from c.args.answer.now 5 c.args.count in
     record {
       lines =
-          appended c.push-str.result (string_bytes c.push-str.new.self) (string_bytes c.args.text.now) (codes "no heirs\n") (heir_lines ns ss)
-          c.push-str.ensures.bytes (no_heirs ns c.args.answer.now c.args.count (omega arith));
+          appended c.push_str.result (string_bytes c.push_str.new.self) (string_bytes c.args.text.now) (codes "no heirs\n") (heir_lines ns ss)
+          c.push_str.ensures.bytes (no_heirs ns c.args.answer.now c.args.count (omega arith));
     }
 
 pub returns : goal.returns
@@ -24,6 +24,6 @@ returns c =
     let ss = shares_from c.args.answer.now 5 c.args.count in
     record {
       lines =
-          same_text c.put-heirs.result (string_bytes c.put-heirs.new.text) (string_bytes c.args.text.now) (flat_map (heir_line ns) ss) (heir_lines ns ss)
-          (some_heirs ns c.args.answer.now c.args.count (omega arith)) c.put-heirs.ensures.lines;
+          same_text c.put_heirs.result (string_bytes c.put_heirs.new.text) (string_bytes c.args.text.now) (flat_map (heir_line ns) ss) (heir_lines ns ss)
+          (some_heirs ns c.args.answer.now c.args.count (omega arith)) c.put_heirs.ensures.lines;
     }

@@ -16,10 +16,10 @@ use Rattle.clerk.specs.Estates.{named_text}
 use Rattle.clerk.proofs.Asking.{answers_by}
 use Rattle.clerk.proofs.put_estate_of.Goals as goal
 
-pub make-family-requires : goal.make-family-requires
-make-family-requires c =
+pub make_family-requires : goal.make_family-requires
+make_family-requires c =
     let ps = vec_items c.args.family.now.persons in
-    record { few = omega (arith, c.requires.valid.family.few, length-map ps law_person, ap length c.as-slice.ensures.value) }
+    record { few = omega (arith, c.requires.valid.family.few, length-map ps law_person, ap length c.as_slice.ensures.value) }
 
 pub returns : goal.returns
 returns c =
@@ -27,13 +27,13 @@ returns c =
     let f = (household family).family in
     let ns = (household family).names in
     let opened = memory_of c.in-Ok.register in
-    let made = memory_of c.make-family.new.register in
+    let made = memory_of c.make_family.new.register in
     let long = ap (λ r. length r.now) c.new-store.ensures.words in
     let said : says made (estate_of c.args.who) ≡ answer_to family_limits f (estate_of c.args.who) =
     answers_by (words_in c.new-store.result) f made opened (estate_of c.args.who) c.requires.valid.family (omega (arith, c.requires.words)) c.in-Ok.ensures.cases.1
-    (c.make-family.ensures.left ∙ ap (λ (ps : List Person). left_by (desk []) opened (calls_of (map law_person ps))) c.as-slice.ensures.value) in
+    (c.make_family.ensures.left ∙ ap (λ (ps : List Person). left_by (desk []) opened (calls_of (map law_person ps))) c.as_slice.ensures.value) in
     record {
       lines =
           same_text c.ask.result (string_bytes c.ask.new.text) (string_bytes c.args.text.now) _ (named_text ns (answer_to family_limits f (estate_of c.args.who)))
-          ((λ i. named_text (bytes_of (c.as-slice-in-Ok.ensures.value i)) (said i))) c.ask.ensures.lines;
+          ((λ i. named_text (bytes_of (c.as_slice-in-Ok.ensures.value i)) (said i))) c.ask.ensures.lines;
     }

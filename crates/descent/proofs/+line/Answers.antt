@@ -28,19 +28,19 @@ pub returns-then-read : goal.returns-then-read
 returns-then-read t c =
     let ws = c.args.memory.now in
     record {
-      limit = c.put-heir.ensures.limit;
-      count = c.put-heir.ensures.count;
+      limit = c.put_heir.ensures.limit;
+      count = c.put_heir.ensures.count;
       gone = λ n f rk ps spare rest ready.
           let work = work_of n ps no_member no_pieces spare in
           let q : law_person c.read.result ≡ person f c.args.who =
           c.read.ensures.value ∙ person_laid ws n (length f) f (link_row f) (alive f) work rest c.args.who ready.words (omega (arith, ready.there, ready.room)) in
-          subst (λ row. Gone n f spare rest ps row c.put-heir.new.memory c.put-heir.result)
+          subst (λ row. Gone n f spare rest ps row c.put_heir.new.memory c.put_heir.result)
           (sym (line_standing ready.ranked c.args.who c.args.by (sym (ap (λ (x : Person). x.lives) q) ∙ c.if-read.true)))
-          (c.put-heir.ensures.gone n f ps spare rest ready.words ready.parts ready.few);
+          (c.put_heir.ensures.gone n f ps spare rest ready.words ready.parts ready.few);
     }
 
-pub returns-in-default : goal.returns-in-default
-returns-in-default t c =
+pub returns-in_default : goal.returns-in_default
+returns-in_default t c =
     let ws = c.args.memory.now in
     record {
       limit = refl;
@@ -49,15 +49,15 @@ returns-in-default t c =
           let work = work_of n ps no_member no_pieces spare in
           let q : law_person c.read.result ≡ person f c.args.who =
           c.read.ensures.value ∙ person_laid ws n (length f) f (link_row f) (alive f) work rest c.args.who ready.words (omega (arith, ready.there, ready.room)) in
-          let k = c.living-children.ensures.value n f (alive f) work rest (ready.words, ready.room) in
-          let large = c.in-default.ensures.cases in (
+          let k = c.living_children.ensures.value n f (alive f) work rest (ready.words, ready.room) in
+          let large = c.in_default.ensures.cases in (
             inr (line_too_large ready.ranked c.args.who c.args.by (sym (ap (λ (x : Person). x.lives) q) ∙ c.if-read.false) (subst (λ j. 4294967296 ≤ c.args.by * j) k large)),
             (ps, ready.few, ready.words),
           );
     }
 
-pub returns-in-default-line : goal.returns-in-default-line
-returns-in-default-line t c =
+pub returns-in_default-line : goal.returns-in_default-line
+returns-in_default-line t c =
     let ws = c.args.memory.now in
     let who = c.args.who in
     let each = c.in-Some.each in
@@ -75,13 +75,13 @@ returns-in-default-line t c =
           let work = work_of n ps no_member no_pieces spare in
           let q : law_person c.read.result ≡ person f who =
           c.read.ensures.value ∙ person_laid ws n (length f) f (link_row f) (alive f) work rest who ready.words (omega (arith, ready.there, ready.room)) in
-          let k = c.living-children.ensures.value n f (alive f) work rest (ready.words, ready.room) in
+          let k = c.living_children.ensures.value n f (alive f) work rest (ready.words, ready.room) in
           let lives : alive f child ≡ true = sym (c.if-lives.ensures.value n (length f) f (alive f) (work_of n (ps ++ xs) no_member no_pieces spare) rest inv.1) in
           let row : line_parts f (length f) who c.args.by ≡ parts_below f each cs =
           line_divided ready.ranked who c.args.by each (sym (ap (λ (x : Person). x.lives) q) ∙ c.if-read.false) (c.in-Some.ensures.cases ∙ ap (λ j. c.args.by * j) k) in
           stopped_below n f spare rest ps (line_parts f (length f) child each) xs (parts_below f each (drop (i + 1) cs)) (line_parts f (length f) who c.args.by) c.line.new.memory
           (row ∙ below_split f each cs i child walk.0 walk.1 lives)
-          (c.in-default-line.ensures.gone n f rk (ps ++ xs) spare rest
+          (c.in_default-line.ensures.gone n f rk (ps ++ xs) spare rest
           (ready_child ws c.loop-turn.memory n f rk ps xs spare rest c.args.steps who c.args.count child c.loop-turn.at ready inv.1 inv.2 inv.3 (walk.2, walk.3) c.if-steps-eq0.false));
     }
 
@@ -123,7 +123,7 @@ loop-turn-preserved t c =
                   subst (All Small) (sym same) inv.4,
                 )
           ] in (
-            c.next-child-link.ensures.value n (length f) f (alive f) (work_of n (ps ++ ys) no_member no_pieces spare) rest more.0
+            c.next_child-link.ensures.value n (length f) f (alive f) (work_of n (ps ++ ys) no_member no_pieces spare) rest more.0
                 ∙ walk_next n f who i c.loop-turn.link child _ ready.room inv.0 met.0 refl,
             more.0,
             more.1,
@@ -156,15 +156,15 @@ returns-after-loop-turn t c =
           let work = work_of n ps no_member no_pieces spare in
           let q : law_person c.read.result ≡ person f who =
           c.read.ensures.value ∙ person_laid ws n (length f) f (link_row f) (alive f) work rest who ready.words (omega (arith, ready.there, ready.room)) in
-          let k = c.living-children.ensures.value n f (alive f) work rest (ready.words, ready.room) in
+          let k = c.living_children.ensures.value n f (alive f) work rest (ready.words, ready.room) in
           let count : count_in ws ≡ length f = ap count_in ready.words ∙ laid_count n (length f) (person_row f) (link_row f) (alive f) work rest in
           ended n f rk ps spare rest who c.args.by c.in-Some.each c.loop-turn.turn c.loop-turn.link c.loop-turn.at c.loop-turn.memory _ ready.room
           (line_divided ready.ranked who c.args.by c.in-Some.each (sym (ap (λ (x : Person). x.lives) q) ∙ c.if-read.false) (c.in-Some.ensures.cases ∙ ap (λ j. c.args.by * j) k))
           inv.0 (inl (omega arith)) inv.1 inv.2 inv.3 inv.4;
     }
 
-pub returns-in-default-somebody : goal.returns-in-default-somebody
-returns-in-default-somebody t c =
+pub returns-in_default-somebody : goal.returns-in_default-somebody
+returns-in_default-somebody t c =
     let ws = c.args.memory.now in
     let who = c.args.who in
     record {
@@ -175,9 +175,9 @@ returns-in-default-somebody t c =
           let work = work_of n ps no_member no_pieces spare in
           let q : law_person c.read.result ≡ person f who =
           c.read.ensures.value ∙ person_laid ws n (length f) f (link_row f) (alive f) work rest who ready.words (omega (arith, ready.there, ready.room)) in
-          let k = c.living-children.ensures.value n f (alive f) work rest (ready.words, ready.room) in
+          let k = c.living_children.ensures.value n f (alive f) work rest (ready.words, ready.room) in
           let l = limit_laid ws n (length f) (person_row f) (link_row f) (alive f) work rest ready.words in
           ended n f rk ps spare rest who c.args.by c.in-Some.each c.loop-turn.turn c.loop-turn.link c.loop-turn.at c.loop-turn.memory _ ready.room
           (line_divided ready.ranked who c.args.by c.in-Some.each (sym (ap (λ (x : Person). x.lives) q) ∙ c.if-read.false) (c.in-Some.ensures.cases ∙ ap (λ j. c.args.by * j) k))
-          inv.0 (inr (⊎_elim (λ z. inl z) (λ z. inr (omega (arith, c.loop-turn.invariant.0))) c.in-default-somebody.ensures.cases)) inv.1 inv.2 inv.3 inv.4;
+          inv.0 (inr (⊎_elim (λ z. inl z) (λ z. inr (omega (arith, c.loop-turn.invariant.0))) c.in_default-somebody.ensures.cases)) inv.1 inv.2 inv.3 inv.4;
     }

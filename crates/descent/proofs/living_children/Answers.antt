@@ -20,7 +20,7 @@ loop-turn-preserved c =
           let inv = c.loop-turn.invariant.1 n f s work rest held in
           let w = walk_child f c.args.who i c.loop-turn.link child inv.0 met.0 in
           let lives = c.lives.ensures.value n (length f) f s work rest held.0 in (
-            c.next-child-link.ensures.value n (length f) f s work rest held.0 ∙ walk_next n f c.args.who i c.loop-turn.link child _ held.1 inv.0 met.0 refl,
+            c.next_child-link.ensures.value n (length f) f s work rest held.0 ∙ walk_next n f c.args.who i c.loop-turn.link child _ held.1 inv.0 met.0 refl,
             elim c.if-lives.branch [
               | then-lives v ↦ v.count-is ∙ ap (λ k. k + 1) inv.1 ∙ sym (count_more s (children f c.args.who) i child w.0 w.1 (sym lives ∙ v.if-lives.true))
               | else-lives v ↦ v.count-is ∙ inv.1 ∙ sym (ap length (kept_same s (children f c.args.who) i child w.0 w.1 (sym lives ∙ v.if-lives.false)))
@@ -39,8 +39,8 @@ returns-after-loop-turn c =
           inv.1 ∙ ap (λ xs. length (filter s xs)) (take_all c.loop-turn.turn (children f c.args.who) all);
     }
 
-pub returns-in-default : goal.returns-in-default
-returns-in-default c =
+pub returns-in_default : goal.returns-in_default
+returns-in_default c =
     let ws = c.args.memory.now in
     record {
       value = λ n f s work rest held.
@@ -48,6 +48,6 @@ returns-in-default c =
           let l = limit_laid ws n (length f) (person_row f) (link_row f) s work rest held.0 in
           let all =
           walk_all f c.args.who c.loop-turn.turn n c.loop-turn.link held.1 inv.0
-          (inr (⊎_elim (λ z. inl z) (λ z. inr (omega arith)) c.in-default.ensures.cases)) in
+          (inr (⊎_elim (λ z. inl z) (λ z. inr (omega arith)) c.in_default.ensures.cases)) in
           inv.1 ∙ ap (λ xs. length (filter s xs)) (take_all c.loop-turn.turn (children f c.args.who) all);
     }

@@ -8,10 +8,10 @@ use Rattle.estate_table.specs.Tables.{under_line}
 use Rattle.estate_table.proofs.Tables.{heir_none, heir_some, five}
 use Rattle.estate_table.proofs.put_heir.Goals as goal
 
-pub returns-then-is-empty : goal.returns-then-is-empty
-returns-then-is-empty c =
+pub returns-then-is_empty : goal.returns-then-is_empty
+returns-then-is_empty c =
     let r = c.args.reasons.now in
-    let none = eqb-true (vec_len r.parts) 0 (sym c.is-empty.ensures ∙ c.if-is-empty.true) in
+    let none = eqb-true (vec_len r.parts) 0 (sym c.is_empty.ensures ∙ c.if-is_empty.true) in
     record {
       lines =
           sym (append-nil (string_bytes c.args.text.now))
@@ -24,13 +24,13 @@ returns c =
     let r = c.args.reasons.now in
     let ns = names_of c.args.names.now in
     let xs = explanations (vec_items r.parts) in
-    let some = eqb-false (vec_len r.parts) 0 (sym c.is-empty.ensures ∙ c.if-is-empty.false) in
+    let some = eqb-false (vec_len r.parts) 0 (sym c.is_empty.ensures ∙ c.if-is_empty.false) in
     record {
       lines =
-          five (string_bytes c.args.text.now) (string_bytes c.put-person.new.text) (string_bytes c.push-str.new.self) (string_bytes c.put-fraction.new.text) (string_bytes c.push-str-2.new.self)
-          (string_bytes c.put-under.new.text) (person_text ns c.args.who) (codes " ") (fraction_text r.sum) (10 ∷ []) (flat_map (under_line ns) xs) c.in-ok-put-person.ensures.lines
-          c.in-ok-push-str.ensures.bytes c.in-ok-put-fraction.ensures.lines c.in-ok-push-str-2.ensures.bytes
-          (c.in-ok-put-under.ensures.lines ∙ ap (λ es. string_bytes c.push-str-2.new.self ++ flat_map (under_line ns) (explanations es)) c.as-slice.ensures.value)
+          five (string_bytes c.args.text.now) (string_bytes c.put_person.new.text) (string_bytes c.push_str.new.self) (string_bytes c.put_fraction.new.text) (string_bytes c.push_str-2.new.self)
+          (string_bytes c.put_under.new.text) (person_text ns c.args.who) (codes " ") (fraction_text r.sum) (10 ∷ []) (flat_map (under_line ns) xs) c.in_ok-put_person.ensures.lines
+          c.in_ok-push_str.ensures.bytes c.in_ok-put_fraction.ensures.lines c.in_ok-push_str-2.ensures.bytes
+          (c.in_ok-put_under.ensures.lines ∙ ap (λ es. string_bytes c.push_str-2.new.self ++ flat_map (under_line ns) (explanations es)) c.as_slice.ensures.value)
           ∙ ap (λ (bs : List ℕ). string_bytes c.args.text.now ++ bs)
           (sym (heir_some ns c.args.who r.sum xs (λ z. some (omega (arith, length-map (vec_items r.parts) explanation, r.parts.ok.0)))));
     }

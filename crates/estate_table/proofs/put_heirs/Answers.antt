@@ -17,12 +17,12 @@ loop-who-preserved c = λ f d formed divided.
     let ns = names_of c.args.names.now in
     let w = c.loop-who.who in
     let e = c.args.estate.now in
-    let r = c.in-ok-reasons.reasons in
+    let r = c.in_ok-reasons.reasons in
     let g : ℕ → List ℕ = λ v. heir_lines ns v (share_for f d v) (ways_to f d v) in
-    let parts : explanations (vec_items r.parts) ≡ ways_to f d w = c.in-ok-reasons.ensures.parts ∙ ap (parts_to w) (held_ways f d e divided) in
-    let sum : r.sum ≡ share_for f d w = c.in-ok-reasons.ensures.sum (pieces_fit f d w e formed divided) ∙ sum_right f d w e divided in
-    two (string_bytes c.args.text.now) (string_bytes c.loop-who.text) (string_bytes c.put-heir.new.text) (heirs_lines ns f d w) (g w) (c.loop-who.invariant f d formed divided)
-    (c.in-ok-put-heir.ensures.lines ∙ ap₂ (λ (x : Fraction) (xs : List LinePart). string_bytes c.loop-who.text ++ heir_lines ns w x xs) sum parts)
+    let parts : explanations (vec_items r.parts) ≡ ways_to f d w = c.in_ok-reasons.ensures.parts ∙ ap (parts_to w) (held_ways f d e divided) in
+    let sum : r.sum ≡ share_for f d w = c.in_ok-reasons.ensures.sum (pieces_fit f d w e formed divided) ∙ sum_right f d w e divided in
+    two (string_bytes c.args.text.now) (string_bytes c.loop-who.text) (string_bytes c.put_heir.new.text) (heirs_lines ns f d w) (g w) (c.loop-who.invariant f d formed divided)
+    (c.in_ok-put_heir.ensures.lines ∙ ap₂ (λ (x : Fraction) (xs : List LinePart). string_bytes c.loop-who.text ++ heir_lines ns w x xs) sum parts)
     ∙ ap (λ (bs : List ℕ). string_bytes c.args.text.now ++ bs) (sym (row_more g w))
 
 pub returns : goal.returns

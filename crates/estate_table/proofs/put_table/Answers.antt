@@ -11,8 +11,8 @@ pub returns : goal.returns
 returns c =
     record {
       lines = λ f d formed divided size.
-          two (string_bytes c.args.text.now) (string_bytes c.put-heirs.new.text) (string_bytes c.put-end.new.text) (heirs_lines (names_of c.args.names.now) f d (length f)) (end_line (length (estate_ways f d)))
-          (c.in-ok-put-heirs.ensures.lines f d formed divided
+          two (string_bytes c.args.text.now) (string_bytes c.put_heirs.new.text) (string_bytes c.put_end.new.text) (heirs_lines (names_of c.args.names.now) f d (length f)) (end_line (length (estate_ways f d)))
+          (c.in_ok-put_heirs.ensures.lines f d formed divided
           ∙ ap (λ (n : ℕ). string_bytes c.args.text.now ++ heirs_lines (names_of c.args.names.now) f d n) (sym size))
-          (c.in-ok-put-end.ensures.lines ∙ ap (λ rs. string_bytes c.put-heirs.new.text ++ end_line (length rs)) (held_ways f d c.args.estate.now divided));
+          (c.in_ok-put_end.ensures.lines ∙ ap (λ rs. string_bytes c.put_heirs.new.text ++ end_line (length rs)) (held_ways f d c.args.estate.now divided));
     }

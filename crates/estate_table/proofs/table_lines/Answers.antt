@@ -28,12 +28,12 @@ returns-in-NotThere c =
     let ns = names_of c.args.names.now in
     record {
       lines =
-          IfOk-weaker c.push-str.result _ _
+          IfOk-weaker c.push_str.result _ _
           (λ _ e formed.
-          let out = subst (OutcomeRight f d) c.in-NotThere.is (c.in-ok-divide.ensures.outcome formed.rank formed.ranked) in
+          let out = subst (OutcomeRight f d) c.in-NotThere.is (c.in_ok-divide.ensures.outcome formed.rank formed.ranked) in
           e ∙ ap (λ (bs : List ℕ). string_bytes c.args.text.now ++ bs)
           (sym (cond-false (ltb d (length f)) (cond (dividable (estate f d)) (table_text ns f d) refused_6) refused_4 (le-ltb d (length f) out))))
-          (appended c.push-str.result (string_bytes c.push-str.new.self) (string_bytes c.args.text.now) _ refused_4 c.push-str.ensures.bytes refl);
+          (appended c.push_str.result (string_bytes c.push_str.new.self) (string_bytes c.args.text.now) _ refused_4 c.push_str.ensures.bytes refl);
     }
 
 pub returns-in-BeyondLimit : goal.returns-in-BeyondLimit
@@ -43,12 +43,12 @@ returns-in-BeyondLimit c =
     let ns = names_of c.args.names.now in
     record {
       lines =
-          IfOk-weaker c.push-str-in-BeyondLimit.result _ _
+          IfOk-weaker c.push_str-in-BeyondLimit.result _ _
           (λ _ e formed.
-          let out = subst (OutcomeRight f d) c.in-BeyondLimit.is (c.in-ok-divide.ensures.outcome formed.rank formed.ranked) in
+          let out = subst (OutcomeRight f d) c.in-BeyondLimit.is (c.in_ok-divide.ensures.outcome formed.rank formed.ranked) in
           e ∙ ap (λ (bs : List ℕ). string_bytes c.args.text.now ++ bs)
           (sym (said_there ns f d out.0 ∙ cond-false (dividable (estate f d)) (table_text ns f d) refused_6 out.1)))
-          (appended c.push-str-in-BeyondLimit.result (string_bytes c.push-str-in-BeyondLimit.new.self) (string_bytes c.args.text.now) _ refused_6 c.push-str-in-BeyondLimit.ensures.bytes refl);
+          (appended c.push_str-in-BeyondLimit.result (string_bytes c.push_str-in-BeyondLimit.new.self) (string_bytes c.args.text.now) _ refused_6 c.push_str-in-BeyondLimit.ensures.bytes refl);
     }
 
 pub returns-in-Divided : goal.returns-in-Divided
@@ -58,11 +58,11 @@ returns-in-Divided c =
     let ns = names_of c.args.names.now in
     record {
       lines =
-          IfOk-weaker c.put-table.result _ _
+          IfOk-weaker c.put_table.result _ _
           (λ _ e formed.
-          let out = subst (OutcomeRight f d) c.in-Divided.is (c.in-ok-divide.ensures.outcome formed.rank formed.ranked) in
+          let out = subst (OutcomeRight f d) c.in-Divided.is (c.in_ok-divide.ensures.outcome formed.rank formed.ranked) in
           e f d formed out.1 (length-map c.args.family.now law_person)
           ∙ ap (λ (bs : List ℕ). string_bytes c.args.text.now ++ bs)
           (sym (said_there ns f d out.0 ∙ cond-true (dividable (estate f d)) (table_text ns f d) refused_6 out.1.within)))
-          c.put-table.ensures.lines;
+          c.put_table.ensures.lines;
     }

@@ -19,13 +19,13 @@ returns-in-Some c =
           let same = first_added amounts all c.args.number more q (lead_parts c.args.lead) lead c.amount.ensures.value sum in
           let own : amounts q.who + more ≡ all q.who =
           ap (λ k. amounts q.who + k) (sym (cond-true (eqb q.who q.who) more 0 (eq-eqb q.who q.who refl))) ∙ same q.who in
-          held_as m ps (more_pieces amounts q.who more) all rest c.args.persons c.add-pieces.new.work (λ i w. same w i)
-          (c.add-pieces.ensures.left m ps amounts rest held (λ _. who.0) (subst (λ k. k < 4294967296) (sym own) (small q.who)));
+          held_as m ps (more_pieces amounts q.who more) all rest c.args.persons c.add_pieces.new.work (λ i w. same w i)
+          (c.add_pieces.ensures.left m ps amounts rest held (λ _. who.0) (subst (λ k. k < 4294967296) (sym own) (small q.who)));
     }
 
-pub returns-in-default : goal.returns-in-default
-returns-in-default c =
+pub returns-in_default : goal.returns-in_default
+returns-in_default c =
     record {
       left = λ m ps amounts all rest held there sum small.
-          held_as m ps amounts all rest c.args.persons c.args.work.now (λ i w. none_added amounts all c.args.number (lead_parts c.args.lead) (ap lead_parts c.in-default.is) sum w i) held;
+          held_as m ps amounts all rest c.args.persons c.args.work.now (λ i w. none_added amounts all c.args.number (lead_parts c.args.lead) (ap lead_parts c.in_default.is) sum w i) held;
     }

@@ -12,8 +12,8 @@ use Rattle.passes.specs.Listings.{listed_rows}
 use Rattle.estates.proofs.Estates.{number_right, starts_within, starts_small}
 use Rattle.estates.proofs.divide.Goals as goal
 
-pub returns-in-default : goal.returns-in-default
-returns-in-default c =
+pub returns-in_default : goal.returns-in_default
+returns-in_default c =
     let line = c.measure-line.result in
     let beside = c.args.beside in
     record {
@@ -24,8 +24,8 @@ returns-in-default c =
           let v = c.measure-line.ensures.value n f (estate_starts f d) (listed_rows n f (estate_listing f d)) spare rest t.rows t.many (starts_within t.ranked d n room) in
           record {
             number =
-                c.in-default.ensures.value
-                ∙ number_right t.ranked d n room (lead_parts beside.lead) beside.times line.parts c.lead-number.result line.multiple t.spouse t.repeats t.some c.lead-number.ensures.value
+                c.in_default.ensures.value
+                ∙ number_right t.ranked d n room (lead_parts beside.lead) beside.times line.parts c.lead_number.result line.multiple t.spouse t.repeats t.some c.lead_number.ensures.value
                 v.0 v.1;
             rows = t.rows;
           };
@@ -37,8 +37,8 @@ returns c =
     let beside = c.args.beside in
     let number = c.in-Some.number in
     record {
-      limit = c.hand-down.ensures.limit ∙ c.give.ensures.limit;
-      count = c.hand-down.ensures.count ∙ c.give.ensures.count;
+      limit = c.hand_down.ensures.limit ∙ c.give.ensures.limit;
+      count = c.hand_down.ensures.count ∙ c.give.ensures.count;
       divided = λ n f rk d spare rest t.
           let room = t.rows.room in
           let ss = estate_starts f d in
@@ -47,16 +47,16 @@ returns c =
           let v = c.measure-line.ensures.value n f ss rows spare rest t.rows t.many (starts_within t.ranked d n room) in
           let is : Some number ≡ _ =
           c.in-Some.ensures.value
-          ∙ number_right t.ranked d n room (lead_parts beside.lead) beside.times line.parts c.lead-number.result line.multiple t.spouse t.repeats t.some c.lead-number.ensures.value
+          ∙ number_right t.ranked d n room (lead_parts beside.lead) beside.times line.parts c.lead_number.result line.multiple t.spouse t.repeats t.some c.lead_number.ensures.value
           v.0 v.1 in
           let small : number < 4294967296 = let e = (divided_by (kept_estate f d) number is).1 in let b = common_multiple_below (kept_estate f d) 1 (omega arith) in omega arith in
           let fits = starts_small t.ranked d n room beside.times number t.repeats small in
           let given = c.give.ensures.given n f ss rows spare rest t.rows t.many (starts_within t.ranked d n room) fits in
           let begun = started beside.times number ss (replicate n 0) in
-          let handed = c.hand-down.ensures.handed n f ss (with_pieces rows begun) os spare rest given refl (estate_passes t.ranked d).listing t.all fits in
+          let handed = c.hand_down.ensures.handed n f ss (with_pieces rows begun) os spare rest given refl (estate_passes t.ranked d).listing t.all fits in
           record {
             number = is;
             rows =
-                subst (λ k. Rowed c.hand-down.new.memory n f ss (with_pieces rows (handed_down (divided_among f) os (started k number ss (replicate n 0)))) spare rest) t.repeats handed;
+                subst (λ k. Rowed c.hand_down.new.memory n f ss (with_pieces rows (handed_down (divided_among f) os (started k number ss (replicate n 0)))) spare rest) t.repeats handed;
           };
     }

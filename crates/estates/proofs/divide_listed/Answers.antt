@@ -16,14 +16,14 @@ returns c =
     let ws = c.args.memory.now in
     let r = c.divide-number.result in
     record {
-      limit = c.unlist.ensures.limit ∙ c.divide-number.ensures.limit ∙ c.list-all-persons.ensures.limit;
-      count = c.unlist.ensures.count ∙ c.divide-number.ensures.count ∙ c.list-all-persons.ensures.count;
+      limit = c.unlist.ensures.limit ∙ c.divide-number.ensures.limit ∙ c.list_all-persons.ensures.limit;
+      count = c.unlist.ensures.count ∙ c.divide-number.ensures.count ∙ c.list_all-persons.ensures.count;
       divided = λ n f rk d rest t.
           let ss = estate_starts f d in
           let os = estate_listing f d in
           let by = estate_passes t.ranked d in
           let listed =
-          c.list-all-persons.ensures.listed n f rk ss (spare_left n) rest
+          c.list_all-persons.ensures.listed n f rk ss (spare_left n) rest
           (record { rows = parts_rowed ws n f ss rest t.words t.few t.room; many = t.many; ranked = t.ranked; living = by.starts.living }) in
           let divided =
           c.divide-number.ensures.divided n f rk d (spare_left n) rest

@@ -30,7 +30,7 @@ loop-i-preserved c =
           let fits =
           start_fits times whole ss i s row (started times whole ss rows.pieces) (All-weaker (λ (q : Part). q.who < n) (λ (q : Part). q.who < length row) (λ q k. omega arith) ss there) (omega arith) final small in
           let amount = c.amount.ensures.value in
-          let more : c.word-of-more.result ≡ times * (whole / s.by) = c.word-of-more.ensures.value (omega arith) ∙ amount in
+          let more : c.word_of-more.result ≡ times * (whole / s.by) = c.word_of-more.ensures.value (omega arith) ∙ amount in
           let new = set row s.who (get_or row s.who 0 + times * (whole / s.by)) in (
             new,
             subst (λ x. Rowed c.add.new.memory n f ss (with_pieces rows (set row s.who (get_or row s.who 0 + x))) spare rest) more
@@ -49,13 +49,13 @@ returns-after-loop-i c =
           subst (λ r. Rowed c.loop-i.memory n f ss (with_pieces rows r) spare rest) (sym (started_end c.args.times c.args.whole ss c.loop-i.i inv.0 (omega arith)) ∙ inv.2) inv.1;
     }
 
-pub returns-in-default : goal.returns-in-default
-returns-in-default c =
+pub returns-in_default : goal.returns-in_default
+returns-in_default c =
     record {
       limit = c.loop-i.invariant.0;
       count = c.loop-i.invariant.1;
       given = λ n f ss rows spare rest held many there small.
           let inv = c.loop-i.invariant.2 n f ss rows spare rest held many there small in
           let h : c.loop-i.i < length ss = omega (arith, c.loop-i-test.true) in
-          absurd (c.in-default.ensures.value n f ss (with_pieces rows inv.0) spare rest no_part inv.1 h (All-get_or (λ (q : Part). q.who < n) ss c.loop-i.i no_part h there));
+          absurd (c.in_default.ensures.value n f ss (with_pieces rows inv.0) spare rest no_part inv.1 h (All-get_or (λ (q : Part). q.who < n) ss c.loop-i.i no_part h there));
     }

@@ -87,8 +87,8 @@ returns-after-loop-i c =
           record { rows = subst (λ o. Rowed c.loop-i.memory n f ss (listed_rows n f o) spare rest) e inv.0; next = inv.1 ∙ ap length e };
     }
 
-pub returns-in-default : goal.returns-in-default
-returns-in-default c =
+pub returns-in_default : goal.returns-in_default
+returns-in_default c =
     let i = c.loop-i.i in
     record {
       limit = c.loop-i.invariant.0;
@@ -99,5 +99,5 @@ returns-in-default c =
           let inv = c.loop-i.invariant.3 n f rk ss spare rest t in
           let h : i < length ss = omega (arith, c.loop-i-test.true, t.many) in
           let there = alive_there t.ranked (get_or ss i no_part).who (start_alive c.args.memory.now n f rk ss spare rest c.args.count i t h) in
-          absurd (c.in-default.ensures.value n f ss (listed_rows n f (all_listed g (take i (starts_persons ss)) [])) spare rest no_part inv.0 h (omega (arith, t.rows.room)));
+          absurd (c.in_default.ensures.value n f ss (listed_rows n f (all_listed g (take i (starts_persons ss)) [])) spare rest no_part inv.0 h (omega (arith, t.rows.room)));
     }

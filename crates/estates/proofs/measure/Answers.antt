@@ -32,11 +32,11 @@ returns-after-loop-i c =
           (inv.0 ∙ ap (λ xs. few (starts_count rows.counts xs)) all, inv.1 ∙ ap (λ xs. common_multiple (starts_numbers rows.multiples xs) c.args.first) all);
     }
 
-pub returns-in-default : goal.returns-in-default
-returns-in-default c =
+pub returns-in_default : goal.returns-in_default
+returns-in_default c =
     record {
       value = λ n f ss rows spare rest held many there.
           let i = c.loop-i.i in
           let h : i < length ss = omega (arith, c.loop-i-test.true) in
-          absurd (c.in-default.ensures.value n f ss rows spare rest no_part held h (All-get_or (λ (s : Part). s.who < n) ss i no_part h there));
+          absurd (c.in_default.ensures.value n f ss rows spare rest no_part held h (All-get_or (λ (s : Part). s.who < n) ss i no_part h there));
     }

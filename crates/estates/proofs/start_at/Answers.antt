@@ -9,7 +9,7 @@ returns-then-who-memory c =
       within = tt;
       value = λ n f ps rows spare rest none held h there.
           let l = rowed_limit held in
-          let w = start_words held c.args.index (c.work-at.result + 2 * c.args.index) none h (omega (arith, c.work-at.ensures.value)) in
+          let w = start_words held c.args.index (c.work_at.result + 2 * c.args.index) none h (omega (arith, c.work_at.ensures.value)) in
           omega (arith, w.0);
     }
 
@@ -19,6 +19,6 @@ returns c =
       within = omega arith;
       value = λ n f ps rows spare rest none held h there.
           let l = rowed_limit held in
-          let w = start_words held c.args.index (c.work-at.result + 2 * c.args.index) none h (omega (arith, c.work-at.ensures.value)) in
+          let w = start_words held c.args.index (c.work_at.result + 2 * c.args.index) none h (omega (arith, c.work_at.ensures.value)) in
           λ j. record { who = w.0 j; by = w.1 j };
     }

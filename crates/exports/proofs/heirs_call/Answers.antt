@@ -8,10 +8,10 @@ pub returns : goal.returns
 returns c =
     let ws = c.args.memory.now in
     let lent = c.args.answer.now in
-    let later = c.answer-row.new.memory in
-    let bytes = c.answer-row.new.answer in
-    let told = c.answer-row.ensures in
-    let back = bits_back c.answer-row.result c.answer-row.type-inv in
+    let later = c.answer_row.new.memory in
+    let bytes = c.answer_row.new.answer in
+    let told = c.answer_row.ensures in
+    let back = bits_back c.answer_row.result c.answer_row.type_inv in
     record {
       called = λ ready. subst (λ z. Called ws later (read c.args.row.now) lent bytes z) (sym back) (told.called ready);
       within = λ k e. told.within k (sym back ∙ e);

@@ -8,9 +8,9 @@ use Rattle.exports.proofs.heirs_check.Goals as goal
 pub returns : goal.returns
 returns c =
     let ws = c.args.memory.now in
-    let ok = c.is-sound.ensures.yes c.if-not-is-sound.false in
-    let room : bytes_asked (limit_in ws) ≤ length c.args.answer.now = omega (arith, c.if-answer-bytes-asked.false, c.bytes_asked.ensures.value) in
-    let count : to_z w64 (count_in ws) ≡ pos (count_in ws) = to_z_pos w64 (count_in ws) (omega (arith, c.type-inv.memory 1)) in
+    let ok = c.is_sound.ensures.yes c.if-not-is_sound.false in
+    let room : bytes_asked (limit_in ws) ≤ length c.args.answer.now = omega (arith, c.if-answer-bytes_asked.false, c.bytes_asked.ensures.value) in
+    let count : to_z w64 (count_in ws) ≡ pos (count_in ws) = to_z_pos w64 (count_in ws) (omega (arith, c.type_inv.memory 1)) in
     record {
       checked =
           record {

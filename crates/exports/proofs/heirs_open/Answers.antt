@@ -9,7 +9,7 @@ pub returns-in-Err : goal.returns-in-Err
 returns-in-Err c =
     let e = c.in-Err.refusal in
     let opened = c.in-Err.ensures.opened in
-    let told = bits_back c.signed-by.result c.signed-by.type-inv ∙ c.signed-by.ensures.value in
+    let told = bits_back c.signed_by.result c.signed_by.type_inv ∙ c.signed_by.ensures.value in
     record {
       left = opened.left ∙ ap (λ r. left_by r c.args.memory.now c.args.limit) opened.value;
       value = told ∙ ap signed_opening opened.value;

@@ -17,7 +17,7 @@ returns c =
     let l = length-family ws in
     record {
       value = λ is.
-          c.child-from.ensures.value
+          c.child_from.ensures.value
           ∙ ap (λ k. first_of (children_in f (c.args.parent - 1) (k - (c.args.child + 1)) (c.args.child + 1))) (sym l)
           ∙ behind_from f c.args.parent c.args.child (omega (arith, c.requires.there)) c.if-parent-eq0.false is;
     }

@@ -9,8 +9,8 @@ use Rattle.inspection.proofs.is_marked.Goals as goal
 pub bounds-memory-1 : goal.bounds-memory-1
 bounds-memory-1 c = omega arith
 
-pub is-supported-requires : goal.is-supported-requires
-is-supported-requires c = record { room = c.requires.room; there = omega arith }
+pub is_supported-requires : goal.is_supported-requires
+is_supported-requires c = record { room = c.requires.room; there = omega arith }
 
 pub returns-then-who-memory : goal.returns-then-who-memory
 returns-then-who-memory c =
@@ -18,7 +18,7 @@ returns-then-who-memory c =
     record {
       value = λ n f s work rest held.
           let k : count_in ws ≡ length f = ap count_in held.0 ∙ laid_count n (length f) (person_row f) (link_row f) s work rest in
-          c.is-supported.ensures.value n f s work rest held
+          c.is_supported.ensures.value n f s work rest held
           ∙ ap (λ b. b && supported f s c.args.who) (sym (lt-ltb c.args.who (length f) (omega arith)));
     }
 

@@ -26,7 +26,7 @@ returns-then-read c =
     }
 
 pub loop-turn-init : goal.loop-turn-init
-loop-turn-init c n f s work rest held = (c.first-child-link.ensures.value n (length f) f s work rest held.0, scan_none s)
+loop-turn-init c n f s work rest held = (c.first_child-link.ensures.value n (length f) f s work rest held.0, scan_none s)
 
 pub returns-then-lives : goal.returns-then-lives
 returns-then-lives c =
@@ -47,7 +47,7 @@ loop-turn-preserved c n f s work rest held =
     let met = c.in-Some.ensures.cases in
     let inv = c.loop-turn.invariant n f s work rest held in
     let h : c.lives.result ≡ s child = c.lives.ensures.value n (length f) f s work rest held.0 in (
-      c.next-child-link.ensures.value n (length f) f s work rest held.0
+      c.next_child-link.ensures.value n (length f) f s work rest held.0
           ∙ walk_next n f p c.loop-turn.turn c.loop-turn.link child _ held.1 inv.0 met.0 refl,
       scan_more f s p c.loop-turn.turn c.loop-turn.link child inv.0 met.0 (sym h ∙ c.if-lives.false) inv.1,
     )
@@ -67,8 +67,8 @@ returns-after-loop-turn c =
           (scan_all f s p c.loop-turn.turn n c.loop-turn.link held.1 inv.0 (inl (omega (arith, c.loop-turn-test.false))) inv.1);
     }
 
-pub returns-in-default : goal.returns-in-default
-returns-in-default c =
+pub returns-in_default : goal.returns-in_default
+returns-in_default c =
     let ws = c.args.memory.now in
     let p = c.args.who in
     record {
@@ -77,5 +77,5 @@ returns-in-default c =
           let inv = c.loop-turn.invariant n f s work rest held in
           let q : law_person c.read.result ≡ person f p = c.read.ensures.value ∙ person_laid ws n (length f) f (link_row f) s work rest p held.0 (omega (arith, c.requires.there)) in
           dead_none f s p (sym (ap (λ (x : Person). x.lives) q) ∙ c.if-read.false)
-          (scan_all f s p c.loop-turn.turn n c.loop-turn.link held.1 inv.0 (inr (⊎_elim (λ z. inl z) (λ z. inr (omega arith)) c.in-default.ensures.cases)) inv.1);
+          (scan_all f s p c.loop-turn.turn n c.loop-turn.link held.1 inv.0 (inr (⊎_elim (λ z. inl z) (λ z. inr (omega arith)) c.in_default.ensures.cases)) inv.1);
     }

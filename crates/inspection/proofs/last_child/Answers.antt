@@ -12,7 +12,7 @@ loop-child-init c = sym (last_none (family_in c.args.memory.now) c.args.parent)
 pub loop-child-preserved : goal.loop-child-preserved
 loop-child-preserved c =
     let ws = c.args.memory.now in
-    c.link-or-last.ensures.value
+    c.link_or-last.ensures.value
     ∙ ap (λ b. cond b (c.loop-child.child + 1) c.loop-child.last) c.is_child.ensures.value
     ∙ last_more (family_in ws) c.args.parent c.loop-child.child c.loop-child.last c.loop-child.invariant
 

@@ -25,7 +25,7 @@ loop-who-preserved c n f s work rest held =
     let who = c.loop-who.who in
     let h : c.contains.result ≡ s who = mark_read ws n (2 + 8 * limit_in ws) who f s work rest c.contains.result held refl c.loop-who-test.true c.contains.ensures.sets in
     below_more (λ p. s p ≡ (ltb p (length f) && supported f s p)) who (c.loop-who.invariant n f s work rest held)
-    (sym h ∙ c.same.ensures.yes c.if-not-same.false ∙ c.is-marked.ensures.value n f s work rest held)
+    (sym h ∙ c.same.ensures.yes c.if-not-same.false ∙ c.is_marked.ensures.value n f s work rest held)
 
 pub returns-then-not-same : goal.returns-then-not-same
 returns-then-not-same c =
@@ -35,7 +35,7 @@ returns-then-not-same c =
       yes = λ n f s work rest held e. absurd (false≢true e);
       no = λ n f s work rest held right.
           let h : c.contains.result ≡ s who = mark_read ws n (2 + 8 * limit_in ws) who f s work rest c.contains.result held refl c.loop-who-test.true c.contains.ensures.sets in
-          sym c.if-not-same.true ∙ c.same.ensures.no (h ∙ right who c.loop-who-test.true ∙ sym (c.is-marked.ensures.value n f s work rest held));
+          sym c.if-not-same.true ∙ c.same.ensures.no (h ∙ right who c.loop-who-test.true ∙ sym (c.is_marked.ensures.value n f s work rest held));
     }
 
 pub returns : goal.returns

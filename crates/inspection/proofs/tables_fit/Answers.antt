@@ -6,11 +6,11 @@ returns c =
     record {
       yes = λ e.
           record {
-            rows = c.rows-fit.ensures.yes c.if-not-rows-fit.false;
-            no_rows = c.all-zero.ensures.yes c.if-not-all-zero.false;
-            links = c.links-fit.ensures.yes c.if-not-links-fit.false;
-            no_links = λ i h l. c.all-zero-2.ensures.yes c.if-not-all-zero-2.false i h (omega arith);
-            work = λ i h l. c.all-zero-3.ensures.yes e i (omega arith) l;
+            rows = c.rows_fit.ensures.yes c.if-not-rows_fit.false;
+            no_rows = c.all_zero.ensures.yes c.if-not-all_zero.false;
+            links = c.links_fit.ensures.yes c.if-not-links_fit.false;
+            no_links = λ i h l. c.all_zero-2.ensures.yes c.if-not-all_zero-2.false i h (omega arith);
+            work = λ i h l. c.all_zero-3.ensures.yes e i (omega arith) l;
           };
-      no = λ fit. c.all-zero-3.ensures.no (λ i h l. fit.work i (omega arith) l);
+      no = λ fit. c.all_zero-3.ensures.no (λ i h l. fit.work i (omega arith) l);
     }

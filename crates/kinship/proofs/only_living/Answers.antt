@@ -13,11 +13,11 @@ loop-index-preserved c =
     let f = family_of c.args.family.now in
     let g = only_person f c.args.who in
     let i = c.loop-index.index in
-    let q = c.person-at-mother.result in
-    ap family_of c.in-ok-push.ensures.items
+    let q = c.person_at-mother.result in
+    ap family_of c.in_ok-push.ensures.items
     ∙ map-append law_person (vec_items c.loop-index.only) _
     ∙ ap (λ (ps : List Person). ps ++ (record { mother = q.mother; father = q.father; lives = eqb i c.args.who; spouse = q.spouse } ∷ [])) c.loop-index.invariant
-    ∙ ap (λ (p : Person). map g (range_with_len 0 i) ++ (record { mother = p.mother; father = p.father; lives = eqb i c.args.who; spouse = p.spouse } ∷ [])) c.person-at-mother.ensures.value
+    ∙ ap (λ (p : Person). map g (range_with_len 0 i) ++ (record { mother = p.mother; father = p.father; lives = eqb i c.args.who; spouse = p.spouse } ∷ [])) c.person_at-mother.ensures.value
     ∙ sym (map-range_with_len_more g 0 i i (omega arith))
 
 pub returns : goal.returns

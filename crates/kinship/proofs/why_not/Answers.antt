@@ -23,11 +23,11 @@ returns c =
           let d = c.args.decedent in
           let w = c.args.who in
           let size = length-map c.args.family.now law_person in
-          let k = known_by c.args.family.now d rk c.as-slice.result.now (vec_items c.in-ok-lives.lives) s there c.as-slice.ensures.value c.in-ok-lives.ensures.value in
-          let above = c.as-slice-2.result.now in
+          let k = known_by c.args.family.now d rk c.as_slice.result.now (vec_items c.in_ok-lives.lives) s there c.as_slice.ensures.value c.in_ok-lives.ensures.value in
+          let above = c.as_slice-2.result.now in
           let to : LinesTo f w (in_row above) =
-          subst (λ (row : List Bool). LinesTo f w (in_row row)) (sym c.as-slice-2.ensures.value) (c.in-ok-above.ensures.value rk s (omega arith)) in
-          let lives : (person f w).lives ≡ true = sym (ap (λ (p : Person). p.lives) c.person_at.ensures.value) ∙ not-false c.person_at.result.lives c.if-not-person-at.false in
-          subst (CauseHolds f d w) (sym (c.cause-of.ensures.value ∙ ap₂ cause_by c.in-ok-inherits.ensures.value c.in-ok-nearest.ensures.value))
+          subst (λ (row : List Bool). LinesTo f w (in_row row)) (sym c.as_slice-2.ensures.value) (c.in_ok-above.ensures.value rk s (omega arith)) in
+          let lives : (person f w).lives ≡ true = sym (ap (λ (p : Person). p.lives) c.person_at.ensures.value) ∙ not-false c.person_at.result.lives c.if-not-person_at.false in
+          subst (CauseHolds f d w) (sym (c.cause_of.ensures.value ∙ ap₂ cause_by c.in_ok-inherits.ensures.value c.in_ok-nearest.ensures.value))
           (cause_right s d w c.if-who-decedent.false lives k (order_in (in_row above) f d) (nearest_is s d w c.if-who-decedent.false (in_row above) to) none (order_few (in_row above) f d));
     }

@@ -18,18 +18,18 @@ loop-at-preserved c =
     let w = c.args.word.now in
     let bs = c.args.text.now in
     let at = c.loop-at.at in
-    passed_more w bs at (omega arith) (sym (c.if-begins-with.ensures.value ∙ ap (begins w) (take_rest bs at))) c.loop-at.invariant
+    passed_more w bs at (omega arith) (sym (c.if-begins_with.ensures.value ∙ ap (begins w) (take_rest bs at))) c.loop-at.invariant
 
-pub slice-bounds-result-count-then-begins-with : goal.slice-bounds-result-count-then-begins-with
-slice-bounds-result-count-then-begins-with c =
-    omega (arith, fits c.args.word.now c.args.text.now c.loop-at.at (omega arith) c.if-begins-with.ensures.value)
+pub slice_bounds-result-count-then-begins_with : goal.slice_bounds-result-count-then-begins_with
+slice_bounds-result-count-then-begins_with c =
+    omega (arith, fits c.args.word.now c.args.text.now c.loop-at.at (omega arith) c.if-begins_with.ensures.value)
 
-pub slice-bounds-result-start-then-begins-with : goal.slice-bounds-result-start-then-begins-with
-slice-bounds-result-start-then-begins-with c =
-    omega (arith, fits c.args.word.now c.args.text.now c.loop-at.at (omega arith) c.if-begins-with.ensures.value)
+pub slice_bounds-result-start-then-begins_with : goal.slice_bounds-result-start-then-begins_with
+slice_bounds-result-start-then-begins_with c =
+    omega (arith, fits c.args.word.now c.args.text.now c.loop-at.at (omega arith) c.if-begins_with.ensures.value)
 
-pub returns-then-begins-with : goal.returns-then-begins-with
-returns-then-begins-with c =
+pub returns-then-begins_with : goal.returns-then-begins_with
+returns-then-begins_with c =
     let w = c.args.word.now in
     let bs = c.args.text.now in
     let at = c.loop-at.at in
@@ -37,7 +37,7 @@ returns-then-begins-with c =
       value =
           (λ i. Some (record { before = take (at - 0) bs; behind = take_rest bs (at + length w) i }))
           ∙ (ap (λ (k : ℕ). Some (record { before = take k bs; behind = drop (at + length w) bs })) (omega arith)
-          ∙ passed_here w bs at (omega arith) (sym (c.if-begins-with.ensures.value ∙ ap (begins w) (take_rest bs at))) c.loop-at.invariant);
+          ∙ passed_here w bs at (omega arith) (sym (c.if-begins_with.ensures.value ∙ ap (begins w) (take_rest bs at))) c.loop-at.invariant);
     }
 
 pub returns : goal.returns

@@ -11,12 +11,12 @@ step bs i r h e =
     let d = drop_more bs i 0 h in
     ap has_and d ∙ ap (λ (b : Bool). b || has_and (drop (i + 1) bs)) (ap and_here (sym d) ∙ (ap and_here (sym (take_rest bs i)) ∙ sym e))
 
-pub returns-then-is-and : goal.returns-then-is-and
-returns-then-is-and c =
-    record { value = sym (step c.args.bytes.now c.loop-at.at true (omega arith) c.if-is-and.ensures.value) ∙ c.loop-at.invariant }
+pub returns-then-is_and : goal.returns-then-is_and
+returns-then-is_and c =
+    record { value = sym (step c.args.bytes.now c.loop-at.at true (omega arith) c.if-is_and.ensures.value) ∙ c.loop-at.invariant }
 
 pub loop-at-preserved : goal.loop-at-preserved
-loop-at-preserved c = sym (step c.args.bytes.now c.loop-at.at false (omega arith) c.if-is-and.ensures.value) ∙ c.loop-at.invariant
+loop-at-preserved c = sym (step c.args.bytes.now c.loop-at.at false (omega arith) c.if-is_and.ensures.value) ∙ c.loop-at.invariant
 
 pub returns : goal.returns
 unfolding has_and

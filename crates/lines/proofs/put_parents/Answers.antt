@@ -9,15 +9,15 @@ pub returns-in-None-Some : goal.returns-in-None-Some
 returns-in-None-Some c =
     record {
       lines =
-          same_text c.put-both.result _ _ _ _ (λ i. parents_text (option_map (λ x. x.now) (sym c.in-None-Some.is-0 i)) (option_map (λ x. x.now) (sym c.in-None-Some.is-1 i)))
-          c.put-both.ensures.lines;
+          same_text c.put_both.result _ _ _ _ (λ i. parents_text (option_map (λ x. x.now) (sym c.in-None-Some.is-0 i)) (option_map (λ x. x.now) (sym c.in-None-Some.is-1 i)))
+          c.put_both.ensures.lines;
     }
 
-pub returns-in-ok-push-str : goal.returns-in-ok-push-str
-returns-in-ok-push-str c =
+pub returns-in_ok-push_str : goal.returns-in_ok-push_str
+returns-in_ok-push_str c =
     record {
       lines =
-          appended_two c.push-str-in-Some-None.result _ (string_bytes c.push-str.new.self) _ (codes ", of ") c.in-Some-None.mother.now _
-          c.in-ok-push-str.ensures.bytes c.push-str-in-Some-None.ensures.bytes
+          appended_two c.push_str-in-Some-None.result _ (string_bytes c.push_str.new.self) _ (codes ", of ") c.in-Some-None.mother.now _
+          c.in_ok-push_str.ensures.bytes c.push_str-in-Some-None.ensures.bytes
           (λ i. parents_text (option_map (λ x. x.now) (sym c.in-Some-None.is-0 i)) (option_map (λ x. x.now) (sym c.in-Some-None.is-1 i)));
     }

@@ -6,59 +6,59 @@ use Rattle.lines.specs.Grammar.{said_by, parents}
 use Rattle.lines.proofs.Readings.{read_pieces, no_name, no_parents, no_death, no_spouse, all_there}
 use Rattle.lines.proofs.read_line.Goals as goal
 
-pub returns-in-err-name : goal.returns-in-err-name
-returns-in-err-name c =
+pub returns-in_err-name : goal.returns-in_err-name
+returns-in_err-name c =
     let pieces =
-    read_pieces c.args.line.now (split c.split-off.result) (split c.split-off-2.result) (split c.split-off-3.result) c.split-off.ensures.value
-    c.split-off-2.ensures.value c.split-off-3.ensures.value
+    read_pieces c.args.line.now (split c.split_off.result) (split c.split_off-2.result) (split c.split_off-3.result) c.split_off.ensures.value
+    c.split_off-2.ensures.value c.split_off-3.ensures.value
     in
-    record { value = ap (option_map said_by) c.from-residual.ensures ∙ (no_name _ _ _ _ c.in-err-name.ensures.value ∙ pieces) }
+    record { value = ap (option_map said_by) c.from_residual.ensures ∙ (no_name _ _ _ _ c.in_err-name.ensures.value ∙ pieces) }
 
-pub returns-in-err-mother : goal.returns-in-err-mother
-returns-in-err-mother c =
+pub returns-in_err-mother : goal.returns-in_err-mother
+returns-in_err-mother c =
     let pieces =
-    read_pieces c.args.line.now (split c.split-off.result) (split c.split-off-2.result) (split c.split-off-3.result) c.split-off.ensures.value
-    c.split-off-2.ensures.value c.split-off-3.ensures.value
+    read_pieces c.args.line.now (split c.split_off.result) (split c.split_off-2.result) (split c.split_off-3.result) c.split_off.ensures.value
+    c.split_off-2.ensures.value c.split_off-3.ensures.value
     in
     record {
       value =
-          ap (option_map said_by) c.from-residual-in-err-mother.ensures
-          ∙ (no_parents _ _ _ _ _ c.in-ok-name.ensures.value c.in-err-mother.ensures.value ∙ pieces);
+          ap (option_map said_by) c.from_residual-in_err-mother.ensures
+          ∙ (no_parents _ _ _ _ _ c.in_ok-name.ensures.value c.in_err-mother.ensures.value ∙ pieces);
     }
 
-pub returns-in-err-died : goal.returns-in-err-died
-returns-in-err-died c =
+pub returns-in_err-died : goal.returns-in_err-died
+returns-in_err-died c =
     let pieces =
-    read_pieces c.args.line.now (split c.split-off.result) (split c.split-off-2.result) (split c.split-off-3.result) c.split-off.ensures.value
-    c.split-off-2.ensures.value c.split-off-3.ensures.value
+    read_pieces c.args.line.now (split c.split_off.result) (split c.split_off-2.result) (split c.split_off-3.result) c.split_off.ensures.value
+    c.split_off-2.ensures.value c.split_off-3.ensures.value
     in
     record {
       value =
-          ap (option_map said_by) c.from-residual-in-err-died.ensures
-          ∙ (no_death _ _ _ _ _ _ c.in-ok-name.ensures.value c.in-ok-mother.ensures.value c.in-err-died.ensures.value ∙ pieces);
+          ap (option_map said_by) c.from_residual-in_err-died.ensures
+          ∙ (no_death _ _ _ _ _ _ c.in_ok-name.ensures.value c.in_ok-mother.ensures.value c.in_err-died.ensures.value ∙ pieces);
     }
 
-pub returns-in-err-spouse : goal.returns-in-err-spouse
-returns-in-err-spouse c =
+pub returns-in_err-spouse : goal.returns-in_err-spouse
+returns-in_err-spouse c =
     let pieces =
-    read_pieces c.args.line.now (split c.split-off.result) (split c.split-off-2.result) (split c.split-off-3.result) c.split-off.ensures.value
-    c.split-off-2.ensures.value c.split-off-3.ensures.value
+    read_pieces c.args.line.now (split c.split_off.result) (split c.split_off-2.result) (split c.split_off-3.result) c.split_off.ensures.value
+    c.split_off-2.ensures.value c.split_off-3.ensures.value
     in
     record {
       value =
-          ap (option_map said_by) c.from-residual-in-err-spouse.ensures
-          ∙ (no_spouse _ _ _ _ _ _ _ c.in-ok-name.ensures.value c.in-ok-mother.ensures.value c.in-ok-died.ensures.value
-          c.in-err-spouse.ensures.value ∙ pieces);
+          ap (option_map said_by) c.from_residual-in_err-spouse.ensures
+          ∙ (no_spouse _ _ _ _ _ _ _ c.in_ok-name.ensures.value c.in_ok-mother.ensures.value c.in_ok-died.ensures.value
+          c.in_err-spouse.ensures.value ∙ pieces);
     }
 
 pub returns : goal.returns
 returns c =
     let pieces =
-    read_pieces c.args.line.now (split c.split-off.result) (split c.split-off-2.result) (split c.split-off-3.result) c.split-off.ensures.value
-    c.split-off-2.ensures.value c.split-off-3.ensures.value
+    read_pieces c.args.line.now (split c.split_off.result) (split c.split_off-2.result) (split c.split_off-3.result) c.split_off.ensures.value
+    c.split_off-2.ensures.value c.split_off-3.ensures.value
     in
     record {
       value =
-          all_there _ _ _ _ _ _ _ _ c.in-ok-name.ensures.value c.in-ok-mother.ensures.value c.in-ok-died.ensures.value
-          c.in-ok-spouse.ensures.value ∙ pieces;
+          all_there _ _ _ _ _ _ _ _ c.in_ok-name.ensures.value c.in_ok-mother.ensures.value c.in_ok-died.ensures.value
+          c.in_ok-spouse.ensures.value ∙ pieces;
     }

@@ -10,8 +10,8 @@ use Rattle.living.specs.Places.{first_unsupported}
 use Rattle.living.proofs.Bits.{changed_laid, ended_none, ended_some}
 use Rattle.living.proofs.ends.Goals as goal
 
-pub returns-in-default : goal.returns-in-default
-returns-in-default c =
+pub returns-in_default : goal.returns-in_default
+returns-in_default c =
     record {
       limit = refl;
       count = refl;
@@ -20,7 +20,7 @@ returns-in-default c =
           held.0
           ∙ ap (λ v. laid n (length f) (person_row f) (link_row f) v work rest)
           (ended_none f c.args.who s
-          (c.in-default.ensures.value n f s work rest held (omega arith) (omega arith) ∙ ap (λ k. first_unsupported f s k 0) (add-one c.args.who)));
+          (c.in_default.ensures.value n f s work rest held (omega arith) (omega arith) ∙ ap (λ k. first_unsupported f s k 0) (add-one c.args.who)));
     }
 
 pub returns : goal.returns
@@ -35,8 +35,8 @@ returns c =
           let some : Some p ≡ first_unsupported f s (suc c.args.who) 0 =
           c.in-Some.ensures.value n f s work rest held (omega arith) (omega arith) ∙ ap (λ k. first_unsupported f s k 0) (add-one c.args.who) in
           let out : c.remove.new.memory ≡ laid n (length f) (person_row f) (link_row f) (without_member s p) work rest =
-          changed_laid ws c.remove.new.memory n (length f) f (link_row f) s work rest c.bits-at-at.result p (λ v. without_member v p) held.0 (links_wide f)
-          c.bits-at-at.ensures.value (omega (arith, c.in-Some.ensures.within)) c.remove.ensures.sets in
+          changed_laid ws c.remove.new.memory n (length f) f (link_row f) s work rest c.bits_at-at.result p (λ v. without_member v p) held.0 (links_wide f)
+          c.bits_at-at.ensures.value (omega (arith, c.in-Some.ensures.within)) c.remove.ensures.sets in
           let k : count_in c.remove.new.memory ≡ length f = ap count_in out ∙ laid_count n (length f) (person_row f) (link_row f) (without_member s p) work rest in
           c.lower.ensures.left n f (without_member s p) work rest (out, held.1) there
           ∙ (λ i. laid n (length f) (person_row f) (link_row f) (lowered (k i) f p (without_member s p)) work rest)

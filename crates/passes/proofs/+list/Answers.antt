@@ -32,8 +32,8 @@ count_of :
 count_of ws n f ps out spare rest who at held h e =
     let l = rowed_limit held in ap (λ k. get_or ws k 0) (let z : at ≡ 8450 + 10 * n + who = omega arith in z) ∙ counts_read held who h
 
-pub returns-then-memory-count-at-ne0 : goal.returns-then-memory-count-at-ne0
-returns-then-memory-count-at-ne0 t c =
+pub returns-then-memory-count_at-ne0 : goal.returns-then-memory-count_at-ne0
+returns-then-memory-count_at-ne0 t c =
     let ws = c.args.memory.now in
     let who = c.args.who in
     record {
@@ -44,7 +44,7 @@ returns-then-memory-count-at-ne0 t c =
           let there : who < n = let a = alive_there ready.ranked who ready.lives in let b = ready.rows.room in omega arith in
           let here =
           is_listed n f out ready.listing ready.rows.room who there
-          (λ z. c.if-memory-count-at-ne0.true (count_of ws n f ps out spare rest who c.count-at.result ready.rows there c.count-at.ensures.value ∙ z)) in
+          (λ z. c.if-memory-count_at-ne0.true (count_of ws n f ps out spare rest who c.count_at.result ready.rows there c.count_at.ensures.value ∙ z)) in
           let e = listed_stop c.args.steps (divided_among f) who out here in
           record { rows = subst (λ o. Rowed ws n f ps (listed_rows n f o) spare rest) (sym e) ready.rows; next = sym ready.long ∙ ap length (sym e) };
     }
@@ -56,7 +56,7 @@ loop-turn-init t c = (
   λ h. h,
   λ n f rk ps out spare rest ready.
       let e = all_none (λ x o. listed_in (c.args.steps - 1) (divided_among f) x o) out in (
-        c.first-line-link.ensures.value n f (rows_area ps (listed_rows n f out) spare) rest (ready.rows.words, ready.rows.room),
+        c.first_line-link.ensures.value n f (rows_area ps (listed_rows n f out) spare) rest (ready.rows.words, ready.rows.room),
         subst (λ o. Rowed c.args.memory.now n f ps (listed_rows n f o) spare rest) (sym e) ready.rows,
         sym ready.long ∙ ap length (sym e),
         subst (λ o. Listing f o) (sym e) ready.listing,
@@ -85,7 +85,7 @@ loop-turn-preserved t c =
           let listed = c.list-at.ensures.listed n f rk ps now spare rest below in
           let e : g child now ≡ later = all_more g ds i child out w.0 w.1 in
           let rows = subst (λ o. Rowed c.list-at.new.memory n f ps (listed_rows n f o) spare rest) e listed.rows in (
-            c.next-line-link.ensures.value n f (rows_area ps (listed_rows n f later) spare) rest i (rows.words, rows.room) w.0 w.1,
+            c.next_line-link.ensures.value n f (rows_area ps (listed_rows n f later) spare) rest i (rows.words, rows.room) w.0 w.1,
             rows,
             listed.next ∙ ap length e,
             subst (λ o. Listing f o) e (listing_line c.loop-turn.memory n f rk ps now spare rest (c.args.steps - 1) child c.loop-turn.at below),
@@ -111,12 +111,12 @@ returns t c =
           let there : who < n = let a = alive_there ready.ranked who ready.lives in let b = ready.rows.room in omega arith in
           let new : is_in who out ≡ _ =
           not_listed n f out ready.listing ready.rows.room who
-          (sym (count_of ws n f ps out spare rest who c.count-at.result ready.rows there c.count-at.ensures.value) ∙ c.if-memory-count-at-ne0.false) in
+          (sym (count_of ws n f ps out spare rest who c.count_at.result ready.rows there c.count_at.ensures.value) ∙ c.if-memory-count_at-ne0.false) in
           let met =
           lines_met f who i n c.loop-turn.link ready.rows.room inv.0
           (elim c.loop-turn-test.branch [
             | else-loop-turn-test w ↦ inl (omega (arith, w.loop-turn-test.false, c.loop-turn.invariant.1))
-            | then-loop-turn-test+in-default w ↦ inr (⊎_elim (λ z. inl z) (λ z. inr (omega arith)) w.in-default.ensures.cases)
+            | then-loop-turn-test+in-default w ↦ inr (⊎_elim (λ z. inl z) (λ z. inr (omega arith)) w.in_default.ensures.cases)
           ]) in
           let all : all_listed g (take i ds) out ≡ now = ap (λ xs. all_listed g xs out) (take_all i ds met) in
           let opened : listed_in c.args.steps (divided_among f) who out ≡ who ∷ now = listed_open c.args.steps (divided_among f) who out c.if-steps-eq0.false new in

@@ -12,7 +12,7 @@ pub loop-turn-init : goal.loop-turn-init
 loop-turn-init c = (
   refl,
   refl,
-  λ n f ps rows spare rest held small. (c.first-line-link.ensures.value n f (rows_area ps rows spare) rest (held.words, held.room), (rows.pieces, held, refl)),
+  λ n f ps rows spare rest held small. (c.first_line-link.ensures.value n f (rows_area ps rows spare) rest (held.words, held.room), (rows.pieces, held, refl)),
 )
 
 pub loop-turn-preserved : goal.loop-turn-preserved
@@ -34,7 +34,7 @@ loop-turn-preserved c =
           child_fits f who i child c.args.each n row (added_each ds c.args.each rows.pieces) held.room now.pieces_long w.0 w.1 there inv.1.2 small in
           let later = c.add.ensures.added n f ps (with_pieces rows row) spare rest now fits in
           let new = set row child (get_or row child 0 + c.args.each) in (
-            c.next-line-link.ensures.value n f (rows_area ps (with_pieces rows new) spare) rest i (later.words, later.room) w.0 w.1,
+            c.next_line-link.ensures.value n f (rows_area ps (with_pieces rows new) spare) rest i (later.words, later.room) w.0 w.1,
             (new, later, sym (added_turn ds i child c.args.each row w.0 w.1) ∙ inv.1.2),
           ),
     )
@@ -54,8 +54,8 @@ returns-after-loop-turn c =
           subst (λ r. Rowed c.loop-turn.memory n f ps (with_pieces rows r) spare rest) (sym (added_end ds i c.args.each inv.1.0 all) ∙ inv.1.2) inv.1.1;
     }
 
-pub returns-in-default : goal.returns-in-default
-returns-in-default c =
+pub returns-in_default : goal.returns-in_default
+returns-in_default c =
     let who = c.args.who in
     let i = c.loop-turn.turn in
     record {
@@ -67,6 +67,6 @@ returns-in-default c =
           let l = rowed_limit held in
           let all =
           lines_met f who i n c.loop-turn.link held.room inv.0
-          (inr (⊎_elim (λ z. inl z) (λ z. inr (omega (arith, c.loop-turn.invariant.0))) c.in-default.ensures.cases)) in
+          (inr (⊎_elim (λ z. inl z) (λ z. inr (omega (arith, c.loop-turn.invariant.0))) c.in_default.ensures.cases)) in
           subst (λ r. Rowed c.loop-turn.memory n f ps (with_pieces rows r) spare rest) (sym (added_end ds i c.args.each inv.1.0 all) ∙ inv.1.2) inv.1.1;
     }

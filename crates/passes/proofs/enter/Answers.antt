@@ -22,12 +22,12 @@ pub returns : goal.returns
 returns c =
     let ws = c.args.memory.now in
     let who = c.args.who in
-    let a = c.order-at.result in
-    let b = c.count-at.result in
-    let d = c.multiple-at.result in
-    let line = c.line-of-line.result in
+    let a = c.order_at.result in
+    let b = c.count_at.result in
+    let d = c.multiple_at.result in
+    let line = c.line_of-line.result in
     let kept : (i : ℕ) → i < 8450 → get_or (set (set (set ws a (who + 1)) b line.parts) d line.multiple) i 0 ≡ get_or ws i 0 =
-    λ i h. header_kept ws a (who + 1) b line.parts d line.multiple i h (omega (arith, c.order-at.ensures.value)) (omega (arith, c.count-at.ensures.value)) (omega (arith, c.multiple-at.ensures.value)) in
+    λ i h. header_kept ws a (who + 1) b line.parts d line.multiple i h (omega (arith, c.order_at.ensures.value)) (omega (arith, c.count_at.ensures.value)) (omega (arith, c.multiple_at.ensures.value)) in
     record {
       limit = kept 0 (omega arith);
       count = kept 1 (omega arith);
@@ -35,11 +35,11 @@ returns c =
       entered = λ n f ps out spare rest held long h.
           let l = rowed_limit held in
           let r = listed_rows n f out in
-          let v = c.line-of-line.ensures.value n f ps r spare rest held in
+          let v = c.line_of-line.ensures.value n f ps r spare rest held in
           let there : who < n = omega arith in
-          let ea : 8450 + 9 * n + length out ≡ a = omega (arith, c.order-at.ensures.value) in
-          let eb : 8450 + 10 * n + who ≡ b = omega (arith, c.count-at.ensures.value) in
-          let ed : 8450 + 11 * n + who ≡ d = omega (arith, c.multiple-at.ensures.value) in
+          let ea : 8450 + 9 * n + length out ≡ a = omega (arith, c.order_at.ensures.value) in
+          let eb : 8450 + 10 * n + who ≡ b = omega (arith, c.count_at.ensures.value) in
+          let ed : 8450 + 11 * n + who ≡ d = omega (arith, c.multiple_at.ensures.value) in
           let es : suc who ≡ who + 1 = omega arith in
           let o = order_set held (length out) (suc who) h in
           let q = counts_set o who line.parts there in

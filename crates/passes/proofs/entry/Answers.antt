@@ -10,7 +10,7 @@ returns c =
       value = λ n f ps rows spare rest held.
           let l = rowed_limit held in
           let there : who < n = omega arith in
-          let a : c.count-at.result ≡ 8450 + 10 * n + who = omega (arith, c.count-at.ensures.value) in
-          let b : c.multiple-at.result ≡ 8450 + 11 * n + who = omega (arith, c.multiple-at.ensures.value) in
+          let a : c.count_at.result ≡ 8450 + 10 * n + who = omega (arith, c.count_at.ensures.value) in
+          let b : c.multiple_at.result ≡ 8450 + 11 * n + who = omega (arith, c.multiple_at.ensures.value) in
           (ap (λ k. get_or ws k 0) a ∙ counts_read held who there, ap (λ k. get_or ws k 0) b ∙ multiples_read held who there);
     }

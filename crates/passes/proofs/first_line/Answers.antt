@@ -30,6 +30,6 @@ returns c =
           let l = limit_laid ws n (length f) (person_row f) (link_row f) (alive f) work rest held.0 in
           let q : law_person c.read.result ≡ person f who =
           c.read.ensures.value ∙ person_laid ws n (length f) f (link_row f) (alive f) work rest who held.0 (omega arith) in
-          c.living-from.ensures.value n f work rest 0 held (c.first_child.ensures.value n (length f) f (alive f) work rest held.0)
+          c.living_from.ensures.value n f work rest 0 held (c.first_child.ensures.value n (length f) f (alive f) work rest held.0)
           ∙ sym (ap first_of (cond-false (person f who).lives [] (lines_below f (length f) who) (sym (ap (λ (x : Person). x.lives) q) ∙ c.if-read.false)));
     }

@@ -35,13 +35,13 @@ loop-turn-preserved c =
     let i = c.loop-turn.turn in
     let who = c.in-Some.who in
     let met = c.in-Some.ensures.cases in (
-      c.hand-on.ensures.limit ∙ c.loop-turn.invariant.0,
-      c.hand-on.ensures.count ∙ c.loop-turn.invariant.1,
+      c.hand_on.ensures.limit ∙ c.loop-turn.invariant.0,
+      c.hand_on.ensures.count ∙ c.loop-turn.invariant.1,
       λ n f ps rows os spare rest held order listing long small.
           let inv = c.loop-turn.invariant.2 n f ps rows os spare rest held order listing long small in
           let row = inv.0 in
           let at =
-          link_at c.loop-turn.memory n f ps (with_pieces rows row) os spare rest c.order-at.result c.args.count i inv.1 order listing long c.loop-turn-test.true c.order-at.ensures.value in
+          link_at c.loop-turn.memory n f ps (with_pieces rows row) os spare rest c.order_at.result c.args.count i inv.1 order listing long c.loop-turn-test.true c.order_at.ensures.value in
           let is : get_or os i 0 ≡ who = let a = at.0 in let b = met.0 in omega (arith, sym at.0 ∙ met.0) in
           let h : i < length os = omega (arith, c.loop-turn-test.true) in
           let room = held.room in
@@ -50,7 +50,7 @@ loop-turn-preserved c =
           sum_handed_on (divided_among f who) who row (let t = at.1 in omega (arith, inv.1.pieces_long, is))
           (All-weaker (λ x. x < length f) (λ x. x < length row) (λ x k. omega (arith, inv.1.pieces_long)) (divided_among f who) (lines_there f who)) in
           let fits = inv.3 in
-          (new, c.hand-on.ensures.handed n f ps (with_pieces rows row) spare rest inv.1 inv.3, sym (handed_turn (divided_among f) os i who row h is) ∙ inv.2, omega arith),
+          (new, c.hand_on.ensures.handed n f ps (with_pieces rows row) spare rest inv.1 inv.3, sym (handed_turn (divided_among f) os i who row h is) ∙ inv.2, omega arith),
     )
 
 pub returns-after-loop-turn : goal.returns-after-loop-turn
@@ -63,19 +63,19 @@ returns-after-loop-turn c =
           subst (λ r. Rowed c.loop-turn.memory n f ps (with_pieces rows r) spare rest) (sym (handed_end (divided_among f) os c.loop-turn.turn inv.0 (omega arith)) ∙ inv.2) inv.1;
     }
 
-pub returns-in-default : goal.returns-in-default
-returns-in-default c =
+pub returns-in_default : goal.returns-in_default
+returns-in_default c =
     record {
       limit = c.loop-turn.invariant.0;
       count = c.loop-turn.invariant.1;
       handed = λ n f ps rows os spare rest held order listing long small.
           let inv = c.loop-turn.invariant.2 n f ps rows os spare rest held order listing long small in
           let at =
-          link_at c.loop-turn.memory n f ps (with_pieces rows inv.0) os spare rest c.order-at.result c.args.count c.loop-turn.turn inv.1 order listing long c.loop-turn-test.true
-          c.order-at.ensures.value in
+          link_at c.loop-turn.memory n f ps (with_pieces rows inv.0) os spare rest c.order_at.result c.args.count c.loop-turn.turn inv.1 order listing long c.loop-turn-test.true
+          c.order_at.ensures.value in
           let l = rowed_limit inv.1 in
           let room = held.room in
           let t = at.1 in
           let e = at.0 in
-          absurd (⊎_elim (λ z. omega (arith, sym e ∙ z)) (λ z. omega arith) c.in-default.ensures.cases);
+          absurd (⊎_elim (λ z. omega (arith, sym e ∙ z)) (λ z. omega arith) c.in_default.ensures.cases);
     }

@@ -14,7 +14,7 @@ pub loop-turn-init : goal.loop-turn-init
 loop-turn-init c = (
   refl,
   λ n f ps rows spare rest held.
-      (c.first-line-link.ensures.value n f (rows_area ps rows spare) rest (held.words, held.room), omega arith, refl, sym common_none),
+      (c.first_line-link.ensures.value n f (rows_area ps rows spare) rest (held.words, held.room), omega arith, refl, sym common_none),
 )
 
 pub loop-turn-preserved : goal.loop-turn-preserved
@@ -30,7 +30,7 @@ loop-turn-preserved c =
           let inv = c.loop-turn.invariant.1 n f ps rows spare rest held in
           let w = line_met ds i c.loop-turn.link child inv.0 met.0 in
           let line = c.entry.ensures.value n f ps rows spare rest held in (
-            c.next-line-link.ensures.value n f (rows_area ps rows spare) rest i (held.words, held.room) w.0 w.1,
+            c.next_line-link.ensures.value n f (rows_area ps rows spare) rest i (held.words, held.room) w.0 w.1,
             omega (arith, w.0),
             parts_more rows.counts ds i child c.loop-turn.all.parts _ _ w.0 w.1 inv.2 line.0 c.together-all.ensures.parts,
             common_more rows.multiples ds i child c.loop-turn.all.multiple _ _ w.0 w.1 inv.3 line.1 c.together-all.ensures.multiple,
@@ -52,7 +52,7 @@ returns c =
           lines_met f who i n c.loop-turn.link held.room inv.0
           (elim c.loop-turn-test.branch [
             | else-loop-turn-test w ↦ inl (omega (arith, w.loop-turn-test.false))
-            | then-loop-turn-test+in-default w ↦ inr (⊎_elim (λ z. inl z) (λ z. inr (omega arith)) w.in-default.ensures.cases)
+            | then-loop-turn-test+in-default w ↦ inr (⊎_elim (λ z. inl z) (λ z. inr (omega arith)) w.in_default.ensures.cases)
           ]) in
           let lines : c.loop-turn.lines ≡ length ds = let m = inv.1 in let z = c.loop-turn.invariant.0 in omega arith in (
             c.divided.ensures.parts

@@ -31,7 +31,7 @@ loop-turn-preserved c n f work rest i held start =
     let w = walk_child f c.args.who j c.loop-turn.next child inv.0 met.0 in
     let lives = c.lives.ensures.value n (length f) f (alive f) work rest held.0 in
     let e : j + 1 ≡ i + (c.loop-turn.turn + 1) = omega arith in (
-      c.next-child-next.ensures.value n (length f) f (alive f) work rest held.0
+      c.next_child-next.ensures.value n (length f) f (alive f) work rest held.0
           ∙ walk_next n f c.args.who j c.loop-turn.next child _ held.1 inv.0 met.0 refl ∙ ap (λ k. first_of (drop k (children f c.args.who))) e,
       ap (λ k. filter (alive f) (drop k (children f c.args.who))) (sym e)
           ∙ sym (kept_skip (alive f) (children f c.args.who) j child w.0 w.1 (sym lives ∙ c.if-lives.false)) ∙ inv.1,
@@ -49,8 +49,8 @@ returns-after-loop-turn c =
           sym (ap first_of (sym inv.1) ∙ kept_none (alive f) (children f c.args.who) j all);
     }
 
-pub returns-in-default : goal.returns-in-default
-returns-in-default c =
+pub returns-in_default : goal.returns-in_default
+returns-in_default c =
     let ws = c.args.memory.now in
     record {
       value = λ n f work rest i held start.
@@ -59,6 +59,6 @@ returns-in-default c =
           let l = limit_laid ws n (length f) (person_row f) (link_row f) (alive f) work rest held.0 in
           let all =
           walk_all f c.args.who j n c.loop-turn.next held.1 inv.0
-          (inr (⊎_elim (λ z. inl z) (λ z. inr (omega arith)) c.in-default.ensures.cases)) in
+          (inr (⊎_elim (λ z. inl z) (λ z. inr (omega arith)) c.in_default.ensures.cases)) in
           sym (ap first_of (sym inv.1) ∙ kept_none (alive f) (children f c.args.who) j all);
     }

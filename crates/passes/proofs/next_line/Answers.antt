@@ -23,8 +23,8 @@ returns c =
           let j = s.0 in
           let e : j + 1 ≡ suc j = omega arith in
           let k : i + 1 ≡ suc i = omega arith in
-          c.living-from.ensures.value n f work rest (suc j) held
-          (c.next-child.ensures.value n (length f) f (alive f) work rest held.0
+          c.living_from.ensures.value n f work rest (suc j) held
+          (c.next_child.ensures.value n (length f) f (alive f) work rest held.0
           ∙ walk_next n f who j (first_of (drop j cs)) child _ held.1 refl (first_dropped cs j child s.1 s.2) refl ∙ ap (λ z. first_of (drop z cs)) e)
           ∙ ap first_of (s.3 ∙ ap (drop (suc i)) (sym d)) ∙ ap (λ z. first_of (drop z (divided_among f who))) (sym k);
     }

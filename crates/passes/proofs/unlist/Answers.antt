@@ -51,7 +51,7 @@ loop-turn-preserved c =
           let ms = inv.2 in
           let now = inv.3 in
           let rows : Rows = record { heirs = s; pieces = pieces; order = order_row n (drop i os); counts = cs; multiples = ms } in
-          let at = link_at c.loop-turn.memory n f ps rows os spare rest c.order-at.result c.args.count i now refl listing long c.loop-turn-test.true c.order-at.ensures.value in
+          let at = link_at c.loop-turn.memory n f ps rows os spare rest c.order_at.result c.args.count i now refl listing long c.loop-turn-test.true c.order_at.ensures.value in
           let is : get_or os i 0 ≡ who = omega (arith, sym at.0 ∙ met.0) in
           let h : i < length os = omega (arith, c.loop-turn-test.true) in
           let order : set (order_row n (drop i os)) (c.args.count - 1 - i) 0 ≡ order_row n (drop (i + 1) os) =
@@ -82,8 +82,8 @@ returns-after-loop-turn c =
           inv.3;
     }
 
-pub returns-in-default : goal.returns-in-default
-returns-in-default c =
+pub returns-in_default : goal.returns-in_default
+returns-in_default c =
     let i = c.loop-turn.turn in
     record {
       limit = c.loop-turn.invariant.0;
@@ -92,10 +92,10 @@ returns-in-default c =
           let inv = c.loop-turn.invariant.2 n f ps heirs pieces os spare rest held listing long in
           let rows : Rows = record { heirs = inv.0; pieces = pieces; order = order_row n (drop i os); counts = inv.1; multiples = inv.2 } in
           let at =
-          link_at c.loop-turn.memory n f ps rows os spare rest c.order-at.result c.args.count i inv.3 refl listing long c.loop-turn-test.true c.order-at.ensures.value in
+          link_at c.loop-turn.memory n f ps rows os spare rest c.order_at.result c.args.count i inv.3 refl listing long c.loop-turn-test.true c.order_at.ensures.value in
           let l = rowed_limit inv.3 in
           let room = held.room in
           let t = at.1 in
           let e = at.0 in
-          absurd (⊎_elim (λ z. omega (arith, sym e ∙ z)) (λ z. omega arith) c.in-default.ensures.cases);
+          absurd (⊎_elim (λ z. omega (arith, sym e ∙ z)) (λ z. omega arith) c.in_default.ensures.cases);
     }

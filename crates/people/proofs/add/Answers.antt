@@ -17,20 +17,20 @@ returns c =
     let mid = c.put.new.memory in
     let at = 2 + 4 * n in
     let many = 2 + 4 * n + 4 * n - (2 + 4 * n) in
-    let put = put_mid at many mid c.file-child.new.links in
+    let put = put_mid at many mid c.file_child.new.links in
     let long : length mid ≡ length ws = ap length c.put.ensures.left ∙ length-written (2 + 4 * k) (person_words (law_person c.args.child)) ws in
     record {
       limit =
-          get_or-set_other put 1 0 (k + 1) 0 (λ z. omega arith) ∙ get_or-put_before at many 0 mid c.file-child.new.links 0 (omega arith) (omega arith)
+          get_or-set_other put 1 0 (k + 1) 0 (λ z. omega arith) ∙ get_or-put_before at many 0 mid c.file_child.new.links 0 (omega arith) (omega arith)
           ∙ ap (λ u. get_or u 0 0) c.put.ensures.left ∙ get_or-written_before (2 + 4 * k) 0 (person_words (law_person c.args.child)) ws 0 (omega arith);
-      count = get_or-set_same put 1 (k + 1) 0 (omega (arith, length-put at many mid c.file-child.new.links (omega arith) (omega arith)));
+      count = get_or-set_same put 1 (k + 1) 0 (omega (arith, length-put at many mid c.file_child.new.links (omega arith) (omega arith)));
       left = λ n' f s work rest e' two other new.
           let lim = limit_laid ws n' (length f) (person_row f) (link_row f) s work rest e' in
           let e = limit_said ws n' (length f) (person_row f) (link_row f) s work rest e' in
           let count : k ≡ length f = ap count_in e ∙ laid_count n (length f) (person_row f) (link_row f) s work rest in
-          added ws c.put.new.memory c.file-child.new.links n k f (law_person c.args.child) c.args.child.mother c.args.child.father s work rest
-          c.mother-of-last.result c.mother-of-last-2.result count c.requires.free c.requires.mother c.requires.father other two new
-          (c.mother-of-last.ensures.value n' (length f) f s work rest e' (omega arith)) (c.mother-of-last-2.ensures.value n' (length f) f s work rest e' (omega arith)) e
-          c.put.ensures.left c.file-child.ensures.left
+          added ws c.put.new.memory c.file_child.new.links n k f (law_person c.args.child) c.args.child.mother c.args.child.father s work rest
+          c.mother_of_last.result c.mother_of_last-2.result count c.requires.free c.requires.mother c.requires.father other two new
+          (c.mother_of_last.ensures.value n' (length f) f s work rest e' (omega arith)) (c.mother_of_last-2.ensures.value n' (length f) f s work rest e' (omega arith)) e
+          c.put.ensures.left c.file_child.ensures.left
           ∙ (λ i. laid (lim i) (length f + 1) (person_row (f ++ (law_person c.args.child ∷ []))) (link_row (f ++ (law_person c.args.child ∷ []))) s work rest);
     }

@@ -7,7 +7,7 @@ pub returns-in-NotThere : goal.returns-in-NotThere
 returns-in-NotThere c =
     record {
       lines =
-          appended c.push-str.result (string_bytes c.push-str.new.self) (string_bytes c.args.text.now) _ _ c.push-str.ensures.bytes
+          appended c.push_str.result (string_bytes c.push_str.new.self) (string_bytes c.args.text.now) _ _ c.push_str.ensures.bytes
           (sym (ap (answer_lines (names_of c.args.names.now)) c.in-NotThere.is));
     }
 
@@ -15,6 +15,6 @@ pub returns-in-BeyondLimit : goal.returns-in-BeyondLimit
 returns-in-BeyondLimit c =
     record {
       lines =
-          appended c.push-str-in-BeyondLimit.result (string_bytes c.push-str-in-BeyondLimit.new.self) (string_bytes c.args.text.now) _ _ c.push-str-in-BeyondLimit.ensures.bytes
+          appended c.push_str-in-BeyondLimit.result (string_bytes c.push_str-in-BeyondLimit.new.self) (string_bytes c.args.text.now) _ _ c.push_str-in-BeyondLimit.ensures.bytes
           (sym (ap (answer_lines (names_of c.args.names.now)) c.in-BeyondLimit.is));
     }

@@ -7,10 +7,10 @@ pub loop-who-preserved : goal.loop-who-preserved
 loop-who-preserved c =
     let ns = names_of c.args.names.now in
     let x = get_or c.args.persons.now c.loop-who.who-index 0 in
-    row_more (λ p. codes ", " ++ person_text ns p) c.args.persons.now c.loop-who.who-index x 0 (string_bytes c.args.text.now) (string_bytes c.loop-who.text) (string_bytes c.put-person.new.text)
+    row_more (λ p. codes ", " ++ person_text ns p) c.args.persons.now c.loop-who.who-index x 0 (string_bytes c.args.text.now) (string_bytes c.loop-who.text) (string_bytes c.put_person.new.text)
     c.loop-who-test.true refl c.loop-who.invariant
-    (two (string_bytes c.loop-who.text) (string_bytes c.push-str.new.self) (string_bytes c.put-person.new.text) (codes ", ") (person_text ns x) c.in-ok-push-str.ensures.bytes
-    c.in-ok-put-person.ensures.lines)
+    (two (string_bytes c.loop-who.text) (string_bytes c.push_str.new.self) (string_bytes c.put_person.new.text) (codes ", ") (person_text ns x) c.in_ok-push_str.ensures.bytes
+    c.in_ok-put_person.ensures.lines)
 
 pub returns : goal.returns
 returns c =

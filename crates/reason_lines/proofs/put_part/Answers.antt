@@ -9,7 +9,7 @@ returns c =
     let x = c.args.part.now in
     record {
       lines =
-          three (string_bytes c.args.text.now) (string_bytes c.put-fraction.new.text) (string_bytes c.put-line.new.text) (string_bytes c.push-str.new.self) (fraction_text x.part)
-          (line_text ns (vec_items x.line)) (10 ∷ []) c.in-ok-put-fraction.ensures.lines
-          (c.in-ok-put-line.ensures.lines ∙ ap (λ l. string_bytes c.put-fraction.new.text ++ line_text ns l) c.as-slice.ensures.value) c.in-ok-push-str.ensures.bytes;
+          three (string_bytes c.args.text.now) (string_bytes c.put_fraction.new.text) (string_bytes c.put_line.new.text) (string_bytes c.push_str.new.self) (fraction_text x.part)
+          (line_text ns (vec_items x.line)) (10 ∷ []) c.in_ok-put_fraction.ensures.lines
+          (c.in_ok-put_line.ensures.lines ∙ ap (λ l. string_bytes c.put_fraction.new.text ++ line_text ns l) c.as_slice.ensures.value) c.in_ok-push_str.ensures.bytes;
     }

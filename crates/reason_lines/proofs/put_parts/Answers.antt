@@ -9,8 +9,8 @@ pub loop-index-preserved : goal.loop-index-preserved
 loop-index-preserved c =
     let ns = names_of c.args.names.now in
     let x = c.index-parts-index.result in
-    row_more (λ e. part_line ns (explanation e)) c.args.parts.now c.loop-index.index x x (string_bytes c.args.text.now) (string_bytes c.loop-index.text) (string_bytes c.put-part.new.text)
-    c.loop-index-test.true c.index-parts-index.is c.loop-index.invariant c.in-ok-put-part.ensures.lines
+    row_more (λ e. part_line ns (explanation e)) c.args.parts.now c.loop-index.index x x (string_bytes c.args.text.now) (string_bytes c.loop-index.text) (string_bytes c.put_part.new.text)
+    c.loop-index-test.true c.index-parts-index.is c.loop-index.invariant c.in_ok-put_part.ensures.lines
 
 pub returns : goal.returns
 returns c =

@@ -7,7 +7,7 @@ pub returns-then-who-names : goal.returns-then-who-names
 returns-then-who-names c =
     record {
       lines =
-          c.in-ok-push-str.ensures.bytes
+          c.in_ok-push_str.ensures.bytes
           ∙ ap (λ (bs : List ℕ). string_bytes c.args.text.now ++ bs)
           (sym (get_or-map (λ x. x.now) c.args.names.now c.args.who _ (decimal c.args.who) c.if-who-names.true));
     }
@@ -17,7 +17,7 @@ returns c =
     let size = length-map c.args.names.now (λ x. x.now) in
     record {
       lines =
-          c.in-ok-push-str-2.ensures.bytes
+          c.in_ok-push_str-2.ensures.bytes
           ∙ ap (λ (bs : List ℕ). string_bytes c.args.text.now ++ bs)
-          (c.as-str.ensures.value ∙ c.in-ok-number.ensures.ok ∙ sym (get_or_past (names_of c.args.names.now) c.args.who (decimal c.args.who) (omega arith)));
+          (c.as_str.ensures.value ∙ c.in_ok-number.ensures.ok ∙ sym (get_or_past (names_of c.args.names.now) c.args.who (decimal c.args.who) (omega arith)));
     }

@@ -11,8 +11,8 @@ returns c =
     let r = c.args.reasons.now in
     record {
       lines =
-          three (string_bytes c.args.text.now) (string_bytes c.put-parts.new.text) (string_bytes c.put-fraction.new.text) (string_bytes c.push-str.new.self)
+          three (string_bytes c.args.text.now) (string_bytes c.put_parts.new.text) (string_bytes c.put_fraction.new.text) (string_bytes c.push_str.new.self)
           (flat_map (part_line ns) (explanations (vec_items r.parts))) (fraction_text r.sum) (codes " in all" ++ (10 ∷ []))
-          (c.in-ok-put-parts.ensures.lines ∙ ap (λ es. string_bytes c.args.text.now ++ flat_map (part_line ns) (explanations es)) c.as-slice.ensures.value)
-          c.in-ok-put-fraction.ensures.lines c.in-ok-push-str.ensures.bytes;
+          (c.in_ok-put_parts.ensures.lines ∙ ap (λ es. string_bytes c.args.text.now ++ flat_map (part_line ns) (explanations es)) c.as_slice.ensures.value)
+          c.in_ok-put_fraction.ensures.lines c.in_ok-push_str.ensures.bytes;
     }

@@ -18,14 +18,14 @@ pub returns-in-Some : goal.returns-in-Some
 returns-in-Some c =
     record {
       outcome = λ rk s.
-          let k = known_by c.args.family.now c.args.decedent rk c.as-slice.result.now (vec_items c.in-ok-lives.lives) s (omega arith) c.as-slice.ensures.value c.in-ok-lives.ensures.value in
-          (k.there, subst (EstateRight (family_of c.args.family.now) c.args.decedent) c.in-Some.is (c.in-ok-estate.ensures.value rk k));
+          let k = known_by c.args.family.now c.args.decedent rk c.as_slice.result.now (vec_items c.in_ok-lives.lives) s (omega arith) c.as_slice.ensures.value c.in_ok-lives.ensures.value in
+          (k.there, subst (EstateRight (family_of c.args.family.now) c.args.decedent) c.in-Some.is (c.in_ok-estate.ensures.value rk k));
     }
 
 pub returns : goal.returns
 returns c =
     record {
       outcome = λ rk s.
-          let k = known_by c.args.family.now c.args.decedent rk c.as-slice.result.now (vec_items c.in-ok-lives.lives) s (omega arith) c.as-slice.ensures.value c.in-ok-lives.ensures.value in
-          (k.there, subst (EstateRight (family_of c.args.family.now) c.args.decedent) c.in-None.is (c.in-ok-estate.ensures.value rk k));
+          let k = known_by c.args.family.now c.args.decedent rk c.as_slice.result.now (vec_items c.in_ok-lives.lives) s (omega arith) c.as_slice.ensures.value c.in_ok-lives.ensures.value in
+          (k.there, subst (EstateRight (family_of c.args.family.now) c.args.decedent) c.in-None.is (c.in_ok-estate.ensures.value rk k));
     }

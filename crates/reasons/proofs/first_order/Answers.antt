@@ -6,18 +6,18 @@ use Rattle.ways.specs.Rows.{law_ways}
 use Rattle.reasons.proofs.Orders.{first_put, first_stop}
 use Rattle.reasons.proofs.first_order.Goals as goal
 
-pub returns-in-default : goal.returns-in-default
-returns-in-default c =
+pub returns-in_default : goal.returns-in_default
+returns-in_default c =
     record {
-      put = λ rk k e. first_stop k _ c.args.children.now c.args.by (length-map c.args.family.now law_person) e (law_ways (vec_items c.args.ways.now)) c.in-default.ensures.cases;
+      put = λ rk k e. first_stop k _ c.args.children.now c.args.by (length-map c.args.family.now law_person) e (law_ways (vec_items c.args.ways.now)) c.in_default.ensures.cases;
     }
 
 pub returns : goal.returns
 returns c =
     record {
       put =
-          IfOk-weaker c.go-down.result _ _
+          IfOk-weaker c.go_down.result _ _
           (λ t w rk k e.
           first_put k _ c.args.children.now c.args.by (length-map c.args.family.now law_person) e c.in-Some.each _ _ t c.in-Some.ensures.cases.0 (w k.marks))
-          c.go-down.ensures.went;
+          c.go_down.ensures.went;
     }

@@ -8,6 +8,6 @@ pub returns : goal.returns
 returns c =
     record {
       put =
-          IfOk-weaker c.go-down.result _ _
-          (λ t w rk k lives. heads_put k _ c.args.persons.now c.args.each _ _ t (length-map c.args.family.now law_person) lives (w k.marks)) c.go-down.ensures.went;
+          IfOk-weaker c.go_down.result _ _
+          (λ t w rk k lives. heads_put k _ c.args.persons.now c.args.each _ _ t (length-map c.args.family.now law_person) lives (w k.marks)) c.go_down.ensures.went;
     }

@@ -8,11 +8,11 @@ pub returns : goal.returns
 returns c =
     let s = in_row c.args.set.now in
     let p = person (family_of c.args.family.now) c.args.who in
-    let read = c.person-at-mother.ensures.value in
+    let read = c.person_at-mother.ensures.value in
     record {
       value =
-          c.in-ok-put-known-2.ensures.value
-          ∙ ap (λ (xs : List ℕ). xs ++ filter s (known c.person-at-mother.result.father)) (c.in-ok-put-known.ensures.value ∙ ap (λ (xs : List ℕ). xs ++ filter s (known c.person-at-mother.result.mother)) c.new-found.ensures.items)
+          c.in_ok-put_known-2.ensures.value
+          ∙ ap (λ (xs : List ℕ). xs ++ filter s (known c.person_at-mother.result.father)) (c.in_ok-put_known.ensures.value ∙ ap (λ (xs : List ℕ). xs ++ filter s (known c.person_at-mother.result.mother)) c.new-found.ensures.items)
           ∙ ap (λ (q : Person). filter s (known q.mother) ++ filter s (known q.father)) read
           ∙ sym (filter-append s (known p.mother) (known p.father));
     }

@@ -12,20 +12,20 @@ returns-then-link-eq0 c =
           ∙ ap (λ (xs : List ℕ). vec_items c.args.found.now ++ xs) (sym (kept_none (in_row c.args.set.now) c.args.link c.if-link-eq0.true));
     }
 
-pub returns-in-ok-push : goal.returns-in-ok-push
-returns-in-ok-push c =
+pub returns-in_ok-push : goal.returns-in_ok-push
+returns-in_ok-push c =
     record {
       value =
-          c.in-ok-push.ensures.items
+          c.in_ok-push.ensures.items
           ∙ ap (λ (xs : List ℕ). vec_items c.args.found.now ++ xs)
-          (sym (kept_in (in_row c.args.set.now) c.args.link c.if-link-eq0.false (sym c.is_in.ensures.value ∙ c.if-is-in.true)));
+          (sym (kept_in (in_row c.args.set.now) c.args.link c.if-link-eq0.false (sym c.is_in.ensures.value ∙ c.if-is_in.true)));
     }
 
-pub returns-else-is-in : goal.returns-else-is-in
-returns-else-is-in c =
+pub returns-else-is_in : goal.returns-else-is_in
+returns-else-is_in c =
     record {
       value =
           sym (append-nil (vec_items c.args.found.now))
           ∙ ap (λ (xs : List ℕ). vec_items c.args.found.now ++ xs)
-          (sym (kept_out (in_row c.args.set.now) c.args.link c.if-link-eq0.false (sym c.is_in.ensures.value ∙ c.if-is-in.false)));
+          (sym (kept_out (in_row c.args.set.now) c.args.link c.if-link-eq0.false (sym c.is_in.ensures.value ∙ c.if-is_in.false)));
     }

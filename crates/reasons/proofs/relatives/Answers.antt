@@ -18,7 +18,7 @@ returns-in-Children c =
           let f = family_of c.args.family.now in
           subst (λ row. Put (law_ways (vec_items c.args.ways.now)) row (law_ways (vec_items c.first_order.new.ways)) t)
           (sym (ways_first f c.args.decedent c.args.by (lines_order k c.args.lines.now l ∙ sym c.in-Children.ensures.value)))
-          (p rk k (c.as-slice.ensures.value ∙ l.children)))
+          (p rk k (c.as_slice.ensures.value ∙ l.children)))
           c.first_order.ensures.put;
     }
 
@@ -31,7 +31,7 @@ returns-in-Parents c =
           let f = family_of c.args.family.now in
           let d = c.args.decedent in
           let s = in_row c.args.lives.now in
-          let e = c.as-slice-in-Parents.ensures.value ∙ l.parents in
+          let e = c.as_slice-in-Parents.ensures.value ∙ l.parents in
           subst (λ row. Put (law_ways (vec_items c.args.ways.now)) row (law_ways (vec_items c.couple.new.ways)) t)
           (ap (λ (xs : List ℕ). heads_ways f d xs (c.args.by * length xs)) (e ∙ kept_living k (parents f d))
           ∙ sym (ways_second f d c.args.by (lines_order k c.args.lines.now l ∙ sym c.in-Parents.ensures.value)))

@@ -28,14 +28,14 @@ returns-then-not-branch c =
           let d = c.args.decedent in
           let lines = c.args.lines.now in
           let side = c.args.by * c.living_sides.result in
-          let m = side_ready k (person f d).mother c.as-slice.result.now (c.as-slice.ensures.value ∙ l.mothers) in
+          let m = side_ready k (person f d).mother c.as_slice.result.now (c.as_slice.ensures.value ∙ l.mothers) in
           let done =
-          subst (λ z. Put (law_ways (vec_items c.args.ways.now)) (heads_ways f d c.as-slice.result.now (side * length c.as-slice.result.now)) (law_ways (vec_items c.couple.new.ways)) z)
-          c.if-not-branch.true (c.in-ok-couple.ensures.put rk k m.0 m.1) in
+          subst (λ z. Put (law_ways (vec_items c.args.ways.now)) (heads_ways f d c.as_slice.result.now (side * length c.as_slice.result.now)) (law_ways (vec_items c.couple.new.ways)) z)
+          c.if-not-branch.true (c.in_ok-couple.ensures.put rk k m.0 m.1) in
           subst (Beyond (law_ways (vec_items c.args.ways.now)))
-          (ap (λ (xs : List ℕ). heads_ways f d xs (side * length xs) ++ heads_ways f d (vec_items lines.fathers) (side * length (vec_items lines.fathers))) c.as-slice.ensures.value
+          (ap (λ (xs : List ℕ). heads_ways f d xs (side * length xs) ++ heads_ways f d (vec_items lines.fathers) (side * length (vec_items lines.fathers))) c.as_slice.ensures.value
           ∙ sym (third_is k (vec_items lines.mothers) (vec_items lines.fathers) l.mothers l.fathers c.args.by side (sides_by lines c.args.by side c.living_sides.result refl c.living_sides.ensures.value)))
-          (beyond_first (law_ways (vec_items c.args.ways.now)) (heads_ways f d c.as-slice.result.now (side * length c.as-slice.result.now))
+          (beyond_first (law_ways (vec_items c.args.ways.now)) (heads_ways f d c.as_slice.result.now (side * length c.as_slice.result.now))
           (heads_ways f d (vec_items lines.fathers) (side * length (vec_items lines.fathers))) done);
     }
 
@@ -50,15 +50,15 @@ returns c =
           let lines = c.args.lines.now in
           let side = c.args.by * c.living_sides.result in
           let before = law_ways (vec_items c.args.ways.now) in
-          let m = side_ready k (person f d).mother c.as-slice.result.now (c.as-slice.ensures.value ∙ l.mothers) in
-          let e = side_ready k (person f d).father c.as-slice-2.result.now (c.as-slice-2.ensures.value ∙ l.fathers) in
+          let m = side_ready k (person f d).mother c.as_slice.result.now (c.as_slice.ensures.value ∙ l.mothers) in
+          let e = side_ready k (person f d).father c.as_slice-2.result.now (c.as_slice-2.ensures.value ∙ l.fathers) in
           let first =
-          subst (λ z. Put before (heads_ways f d c.as-slice.result.now (side * length c.as-slice.result.now)) (law_ways (vec_items c.couple.new.ways)) z)
-          c.if-not-branch.false (c.in-ok-couple.ensures.put rk k m.0 m.1) in
+          subst (λ z. Put before (heads_ways f d c.as_slice.result.now (side * length c.as_slice.result.now)) (law_ways (vec_items c.couple.new.ways)) z)
+          c.if-not-branch.false (c.in_ok-couple.ensures.put rk k m.0 m.1) in
           subst (λ row. Put before row (law_ways (vec_items c.couple-2.new.ways)) t)
-          (ap₂ (λ (xs ys : List ℕ). heads_ways f d xs (side * length xs) ++ heads_ways f d ys (side * length ys)) c.as-slice.ensures.value c.as-slice-2.ensures.value
+          (ap₂ (λ (xs ys : List ℕ). heads_ways f d xs (side * length xs) ++ heads_ways f d ys (side * length ys)) c.as_slice.ensures.value c.as_slice-2.ensures.value
           ∙ sym (third_is k (vec_items lines.mothers) (vec_items lines.fathers) l.mothers l.fathers c.args.by side (sides_by lines c.args.by side c.living_sides.result refl c.living_sides.ensures.value)))
-          (put_both before (heads_ways f d c.as-slice.result.now (side * length c.as-slice.result.now)) (heads_ways f d c.as-slice-2.result.now (side * length c.as-slice-2.result.now))
+          (put_both before (heads_ways f d c.as_slice.result.now (side * length c.as_slice.result.now)) (heads_ways f d c.as_slice-2.result.now (side * length c.as_slice-2.result.now))
           (law_ways (vec_items c.couple.new.ways)) (law_ways (vec_items c.couple-2.new.ways)) t first (p rk k e.0 e.1)))
           c.couple-2.ensures.put;
     }

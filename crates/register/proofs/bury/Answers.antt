@@ -8,14 +8,14 @@ use Rattle.people.proofs.Layouts.{length-family}
 use Rattle.register.proofs.Steps.{dies_not_there, dies_not_allowed, dies_taken}
 use Rattle.register.proofs.bury.Goals as goal
 
-pub returns-in-default : goal.returns-in-default
-returns-in-default c = record { served = λ ok. dies_not_there c.args.memory.now c.args.who ok c.in-default.ensures.cases }
+pub returns-in_default : goal.returns-in_default
+returns-in_default c = record { served = λ ok. dies_not_there c.args.memory.now c.args.who ok c.in_default.ensures.cases }
 
-pub returns-in-default-if-living : goal.returns-in-default-if-living
-returns-in-default-if-living c =
+pub returns-in_default-if_living : goal.returns-in_default-if_living
+returns-in_default-if_living c =
     let found = c.in-Some.ensures.cases in
     record {
-      served = λ ok. dies_not_allowed c.args.memory.now c.args.who (law_person c.in-Some.someone) ok found.0 found.1 c.in-default-if-living.ensures.cases;
+      served = λ ok. dies_not_allowed c.args.memory.now c.args.who (law_person c.in-Some.someone) ok found.0 found.1 c.in_default-if_living.ensures.cases;
     }
 
 pub put-requires : goal.put-requires
@@ -25,7 +25,7 @@ pub ends-requires : goal.ends-requires
 ends-requires c =
     let ws = c.args.memory.now in
     let found = c.in-Some.ensures.cases in
-    let q = person_words (law_person (record { mother = c.in-Some-if-living.living.mother; father = c.in-Some-if-living.living.father; lives = false; spouse = c.in-Some-if-living.living.spouse })) in
+    let q = person_words (law_person (record { mother = c.in-Some-if_living.living.mother; father = c.in-Some-if_living.living.father; lives = false; spouse = c.in-Some-if_living.living.spouse })) in
     let limit = ap (λ u. get_or u 0 0) c.put.ensures.left ∙ get_or-written_before (2 + 4 * c.args.who) 0 q ws 0 (omega arith) in
     let count = ap (λ u. get_or u 1 0) c.put.ensures.left ∙ get_or-written_before (2 + 4 * c.args.who) 1 q ws 0 (omega arith) in
     record { room = (omega arith, omega arith, omega arith); there = omega (arith, length-family ws, found.0) }
@@ -33,7 +33,7 @@ ends-requires c =
 pub returns : goal.returns
 returns c =
     let found = c.in-Some.ensures.cases in
-    let alive = c.in-Some-if-living.ensures.cases in
+    let alive = c.in-Some-if_living.ensures.cases in
     record {
       served =
           λ ok. dies_taken c.args.memory.now c.put.new.memory c.ends.new.memory c.args.who (law_person c.in-Some.someone) ok found.0 found.1 alive.0

@@ -11,7 +11,7 @@ returns-in-Err c =
     let said = (λ i. refused (c.number.ensures i) (c.place.ensures i)) ∙ replied.said.0 in
     record {
       left = replied.left;
-      said = c.put-refusal.ensures.left ∙ (λ i. written 0 (answer_bytes (said i)) (replied.said.1 i));
+      said = c.put_refusal.ensures.left ∙ (λ i. written 0 (answer_bytes (said i)) (replied.said.1 i));
       long = sym (length-refused _ _) ∙ ap (λ a. length (answer_bytes a)) said;
       sound = replied.sound;
       limit = replied.limit;

@@ -8,8 +8,8 @@ use Rattle.registry_report.proofs.Appended.{same_text}
 use Rattle.registry_report.proofs.Replies.{says_room, says_back}
 use Rattle.registry_report.proofs.answer_call.Goals as goal
 
-pub slice-bounds-put-answer-end : goal.slice-bounds-put-answer-end
-slice-bounds-put-answer-end c =
+pub slice_bounds-put_answer-end : goal.slice_bounds-put_answer-end
+slice_bounds-put_answer-end c =
     let register = c.args.register.now in
     let store = register.store.now in
     omega (
@@ -31,8 +31,8 @@ returns c =
     record {
       left = c.call_size.ensures.left;
       lines =
-          same_text c.put-answer.result (string_bytes c.put-answer.new.text) (string_bytes c.args.text.now) (text_of (answer_read (take (size - 0) bytes)))
-          (answer_text (says (memory_of register) (read c.args.row.now))) (ap text_of back) c.put-answer.ensures.lines;
+          same_text c.put_answer.result (string_bytes c.put_answer.new.text) (string_bytes c.args.text.now) (text_of (answer_read (take (size - 0) bytes)))
+          (answer_text (says (memory_of register) (read c.args.row.now))) (ap text_of back) c.put_answer.ensures.lines;
       words = c.call_size.ensures.words;
       bytes = c.call_size.ensures.bytes;
     }

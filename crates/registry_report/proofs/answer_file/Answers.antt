@@ -12,20 +12,20 @@ file_right : (bs : List ℕ) → all_right (desk []) file_limits ((desk []).open
 unfolding Right
 file_right bs = answers_right [] file_limits (file_calls bs) (omega arith) refl
 
-pub returns-in-err-words : goal.returns-in-err-words
-returns-in-err-words c = record { lines = IfOk-from_err c.from-residual.result _ c.from-residual.ensures.0; right = file_right c.args.input.now }
+pub returns-in_err-words : goal.returns-in_err-words
+returns-in_err-words c = record { lines = IfOk-from_err c.from_residual.result _ c.from_residual.ensures.0; right = file_right c.args.input.now }
 
-pub returns-in-err-bytes : goal.returns-in-err-bytes
-returns-in-err-bytes c =
-    let r = c.from-residual-in-err-bytes in record { lines = IfOk-from_err r.result _ r.ensures.0; right = file_right c.args.input.now }
+pub returns-in_err-bytes : goal.returns-in_err-bytes
+returns-in_err-bytes c =
+    let r = c.from_residual-in_err-bytes in record { lines = IfOk-from_err r.result _ r.ensures.0; right = file_right c.args.input.now }
 
-pub returns-in-err-put-file : goal.returns-in-err-put-file
-returns-in-err-put-file c =
-    let r = c.from-residual-in-err-put-file in record { lines = IfOk-from_err r.result _ r.ensures.0; right = file_right c.args.input.now }
+pub returns-in_err-put_file : goal.returns-in_err-put_file
+returns-in_err-put_file c =
+    let r = c.from_residual-in_err-put_file in record { lines = IfOk-from_err r.result _ r.ensures.0; right = file_right c.args.input.now }
 
 pub returns : goal.returns
 returns c =
     record {
-      lines = c.in-ok-put-file.ensures.lines ∙ ap (λ s. s ++ file_lines c.args.input.now) c.new-text.ensures.bytes;
+      lines = c.in_ok-put_file.ensures.lines ∙ ap (λ s. s ++ file_lines c.args.input.now) c.new-text.ensures.bytes;
       right = file_right c.args.input.now;
     }

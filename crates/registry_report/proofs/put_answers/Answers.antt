@@ -14,23 +14,23 @@ loop-rest-init c = (none_yet (desk []) (string_bytes c.args.text.now) (memory_of
 pub loop-rest-preserved : goal.loop-rest-preserved
 loop-rest-preserved c =
     let bs = c.loop-rest.rest.now in
-    let size = c.row-size-size.result in
-    let done = c.in-ok-answer-call.ensures in (
+    let size = c.row_size-size.result in
+    let done = c.in_ok-answer_call.ensures in (
       one_more (desk []) (string_bytes c.args.text.now) (memory_of c.args.register.now) c.args.input.now
-          (string_bytes c.loop-rest.text) (string_bytes c.answer-call.new.text) (memory_of c.loop-rest.register) (memory_of c.answer-call.new.register)
+          (string_bytes c.loop-rest.text) (string_bytes c.answer_call.new.text) (memory_of c.loop-rest.register) (memory_of c.answer_call.new.register)
           bs (take (size - 0) bs) (take (length bs - size) (drop size bs)) c.loop-rest.invariant.0 (omega arith)
-          (ap (λ n. take n bs) (omega (arith, c.row-size-size.ensures.value)))
-          (between_to_end bs size (length bs) (omega arith) ∙ ap (λ n. drop n bs) c.row-size-size.ensures.value)
+          (ap (λ n. take n bs) (omega (arith, c.row_size-size.ensures.value)))
+          (between_to_end bs size (length bs) (omega arith) ∙ ap (λ n. drop n bs) c.row_size-size.ensures.value)
           done.lines done.left,
       done.words ∙ c.loop-rest.invariant.1,
       done.bytes ∙ c.loop-rest.invariant.2,
     )
 
-pub returns-in-err-answer-call : goal.returns-in-err-answer-call
-returns-in-err-answer-call c =
+pub returns-in_err-answer_call : goal.returns-in_err-answer_call
+returns-in_err-answer_call c =
     let start = memory_of c.args.register.now in
-    let p = err_from_is_err_and c.from-residual.result c.from-residual.ensures.1 in
-    let done = c.in-err-answer-call.ensures in
+    let p = err_from_is_err_and c.from_residual.result c.from_residual.ensures.1 in
+    let done = c.in_err-answer_call.ensures in
     rw p.1 (record {
       lines = tt;
       left = tt;

@@ -12,8 +12,8 @@ returns-then-count-eq0 c =
     let ss = shares_from c.args.answer.now 5 c.args.count in
     record {
       lines =
-          appended c.push-str.result (string_bytes c.push-str.new.self) (string_bytes c.args.text.now) (codes "no heirs\n") (estate_lines ss)
-          c.push-str.ensures.bytes (no_heirs c.args.answer.now c.args.count (omega arith));
+          appended c.push_str.result (string_bytes c.push_str.new.self) (string_bytes c.args.text.now) (codes "no heirs\n") (estate_lines ss)
+          c.push_str.ensures.bytes (no_heirs c.args.answer.now c.args.count (omega arith));
     }
 
 pub returns : goal.returns
@@ -21,6 +21,6 @@ returns c =
     let ss = shares_from c.args.answer.now 5 c.args.count in
     record {
       lines =
-          same_text c.put-share-lines.result (string_bytes c.put-share-lines.new.text) (string_bytes c.args.text.now) (flat_map share_line ss) (estate_lines ss)
-          (some_heirs c.args.answer.now c.args.count (omega arith)) c.put-share-lines.ensures.lines;
+          same_text c.put_share_lines.result (string_bytes c.put_share_lines.new.text) (string_bytes c.args.text.now) (flat_map share_line ss) (estate_lines ss)
+          (some_heirs c.args.answer.now c.args.count (omega arith)) c.put_share_lines.ensures.lines;
     }

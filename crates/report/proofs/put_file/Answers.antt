@@ -14,7 +14,7 @@ returns c =
     let long = ap (λ r. length r.now) c.new-store.ensures.words in
     record {
       lines =
-          same_text c.put-answers.result (string_bytes c.put-answers.new.text) (string_bytes c.args.text.now)
+          same_text c.put_answers.result (string_bytes c.put_answers.new.text) (string_bytes c.args.text.now)
           (printed (desk []) opened (file_calls input)) (file_lines input)
-          (opened_lines (words_in c.new-store.result) input opened (omega (arith, c.requires.words)) c.in-Ok.ensures.cases.1) c.put-answers.ensures.lines;
+          (opened_lines (words_in c.new-store.result) input opened (omega (arith, c.requires.words)) c.in-Ok.ensures.cases.1) c.put_answers.ensures.lines;
     }

@@ -13,14 +13,14 @@ pub loop-index-preserved : goal.loop-index-preserved
 loop-index-preserved c =
     let bs = c.args.answer.now in
     heirs_more bs c.args.count c.loop-index.index (answer_read bs) c.requires.counted (omega arith) (string_bytes c.args.text.now)
-    (string_bytes c.loop-index.text) (string_bytes c.put-share-line.new.text) (law_share c.in-Some.share) c.loop-index.invariant
-    c.in-Some.ensures.value c.in-ok-put-share-line.ensures.lines
+    (string_bytes c.loop-index.text) (string_bytes c.put_share_line.new.text) (law_share c.in-Some.share) c.loop-index.invariant
+    c.in-Some.ensures.value c.in_ok-put_share_line.ensures.lines
 
-pub returns-in-default : goal.returns-in-default
-returns-in-default c =
+pub returns-in_default : goal.returns-in_default
+returns-in_default c =
     let bs = c.args.answer.now in
     let none : Share = record { who = 0; up = 0; down = 1 } in
-    absurd (some_heir bs c.args.count c.loop-index.index (answer_read bs) c.requires.counted (omega arith) none c.in-default.ensures.value)
+    absurd (some_heir bs c.args.count c.loop-index.index (answer_read bs) c.requires.counted (omega arith) none c.in_default.ensures.value)
 
 pub returns : goal.returns
 returns c =

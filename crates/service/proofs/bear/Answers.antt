@@ -7,12 +7,12 @@ use Rattle.people.specs.Persons.{law_person}
 use Rattle.service.proofs.Births.{born_not_there, born_beyond, born_taken}
 use Rattle.service.proofs.bear.Goals as goal
 
-pub returns-in-default : goal.returns-in-default
-returns-in-default c = record { served = λ ok. born_not_there c.args.memory.now c.args.mother c.args.father ok c.in-default.ensures.cases }
+pub returns-in_default : goal.returns-in_default
+returns-in_default c = record { served = λ ok. born_not_there c.args.memory.now c.args.mother c.args.father ok c.in_default.ensures.cases }
 
-pub returns-in-default-below : goal.returns-in-default-below
-returns-in-default-below c =
-    record { served = λ ok. born_beyond c.args.memory.now c.args.mother c.args.father ok c.in-Some.ensures.cases.0 c.in-default-below.ensures.cases }
+pub returns-in_default-below : goal.returns-in_default-below
+returns-in_default-below c =
+    record { served = λ ok. born_beyond c.args.memory.now c.args.mother c.args.father ok c.in-Some.ensures.cases.0 c.in_default-below.ensures.cases }
 
 -- the parents of a newborn whom they may have are there
 parents_there : (k m d : ℕ) (q : Person) → parents_fit k m d ≡ true → q ≡ newborn m d → (q.mother ≤ k) × (q.father ≤ k)

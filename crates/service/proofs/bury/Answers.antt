@@ -7,14 +7,14 @@ use Rattle.people.proofs.Layouts.{length-family}
 use Rattle.service.proofs.Births.{dies_not_there, dies_not_allowed, dies_taken}
 use Rattle.service.proofs.bury.Goals as goal
 
-pub returns-in-default : goal.returns-in-default
-returns-in-default c = record { served = λ ok. dies_not_there c.args.memory.now c.args.who ok c.in-default.ensures.cases }
+pub returns-in_default : goal.returns-in_default
+returns-in_default c = record { served = λ ok. dies_not_there c.args.memory.now c.args.who ok c.in_default.ensures.cases }
 
-pub returns-in-default-if-living : goal.returns-in-default-if-living
-returns-in-default-if-living c =
+pub returns-in_default-if_living : goal.returns-in_default-if_living
+returns-in_default-if_living c =
     let found = c.in-Some.ensures.cases in
     record {
-      served = λ ok. dies_not_allowed c.args.memory.now c.args.who (law_person c.in-Some.someone) ok found.0 found.1 c.in-default-if-living.ensures.cases;
+      served = λ ok. dies_not_allowed c.args.memory.now c.args.who (law_person c.in-Some.someone) ok found.0 found.1 c.in_default-if_living.ensures.cases;
     }
 
 pub put-requires : goal.put-requires
@@ -30,7 +30,7 @@ ends-requires c =
 pub returns : goal.returns
 returns c =
     let found = c.in-Some.ensures.cases in
-    let alive = c.in-Some-if-living.ensures.cases in
+    let alive = c.in-Some-if_living.ensures.cases in
     record {
       served =
           λ ok. dies_taken c.args.memory.now c.put.new.memory c.ends.new.memory c.args.who (law_person c.in-Some.someone) ok found.0 found.1 alive.0

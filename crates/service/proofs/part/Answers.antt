@@ -6,13 +6,13 @@ use Rattle.people.proofs.Layouts.{length-family, person_laid}
 use Rattle.service.proofs.Marriages.{parted_not_there, parted_not_allowed, parted_left}
 use Rattle.service.proofs.part.Goals as goal
 
-pub returns-in-default : goal.returns-in-default
-returns-in-default c = record { served = λ ok. parted_not_there c.args.memory.now c.args.who ok c.in-default.ensures.cases }
+pub returns-in_default : goal.returns-in_default
+returns-in_default c = record { served = λ ok. parted_not_there c.args.memory.now c.args.who ok c.in_default.ensures.cases }
 
-pub returns-in-default-somebody : goal.returns-in-default-somebody
-returns-in-default-somebody c =
+pub returns-in_default-somebody : goal.returns-in_default-somebody
+returns-in_default-somebody c =
     let found = c.in-Some.ensures.cases in
-    record { served = λ ok. parted_not_allowed c.args.memory.now c.args.who (law_person c.in-Some.someone) ok found.0 found.1 c.in-default-somebody.ensures.cases }
+    record { served = λ ok. parted_not_allowed c.args.memory.now c.args.who (law_person c.in-Some.someone) ok found.0 found.1 c.in_default-somebody.ensures.cases }
 
 pub put-requires : goal.put-requires
 put-requires c = record { room = omega (arith, length-family c.args.memory.now, c.in-Some.ensures.cases.0) }

@@ -7,5 +7,5 @@ pub returns-else-someone : goal.returns-else-someone
 returns-else-someone c =
     record {
       settled = λ n f rest e ok room there is.
-          c.settle-dead.ensures.settled n f rest e (dead_there f n c.args.who ok room there (ap (λ (p : Person). p.lives) (sym is) ∙ c.if-someone.false));
+          c.settle_dead.ensures.settled n f rest e (dead_there f n c.args.who ok room there (ap (λ (p : Person). p.lives) (sym is) ∙ c.if-someone.false));
     }

@@ -11,8 +11,8 @@ ends-requires c =
     let count = c.put.ensures.count in
     record { room = (omega arith, omega arith, omega arith); there = omega arith }
 
-pub settle-dead-count-requires : goal.settle-dead-count-requires
-settle-dead-count-requires c =
+pub settle_dead-count-requires : goal.settle_dead-count-requires
+settle_dead-count-requires c =
     let limit = c.put.ensures.limit in
     let count = c.put.ensures.count in
     let limit' = c.ends.ensures.limit in
@@ -25,8 +25,8 @@ begins-requires c =
     let count = c.put.ensures.count in
     let limit' = c.ends.ensures.limit in
     let count' = c.ends.ensures.count in
-    let limit'' = c.settle-dead-count.ensures.limit in
-    let count'' = c.settle-dead-count.ensures.count in
+    let limit'' = c.settle_dead-count.ensures.limit in
+    let count'' = c.settle_dead-count.ensures.count in
     let limit''' = c.put-2.ensures.limit in
     let count''' = c.put-2.ensures.count in
     record { room = (omega arith, omega arith, omega arith); there = omega arith }
@@ -35,7 +35,7 @@ pub returns : goal.returns
 returns c =
     record {
       settled = λ n f rest e ok room there is lives.
-          living_settled n f rest c.args.memory.now c.put.new.memory c.ends.new.memory c.settle-dead-count.new.memory c.put-2.new.memory c.begins.new.memory
-          c.args.answer.now c.settle-dead-count.new.answer c.args.who (law_person c.args.someone) c.settle-dead-count.result e ok room there is lives (c.put.ensures.left ∙ ap (λ q. written (2 + 4 * c.args.who) (person_words q) c.args.memory.now) c.buried.ensures.value)
-          c.ends.ensures.left c.settle-dead-count.ensures.settled c.put-2.ensures.left c.begins.ensures.left;
+          living_settled n f rest c.args.memory.now c.put.new.memory c.ends.new.memory c.settle_dead-count.new.memory c.put-2.new.memory c.begins.new.memory
+          c.args.answer.now c.settle_dead-count.new.answer c.args.who (law_person c.args.someone) c.settle_dead-count.result e ok room there is lives (c.put.ensures.left ∙ ap (λ q. written (2 + 4 * c.args.who) (person_words q) c.args.memory.now) c.buried.ensures.value)
+          c.ends.ensures.left c.settle_dead-count.ensures.settled c.put-2.ensures.left c.begins.ensures.left;
     }

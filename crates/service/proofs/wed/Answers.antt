@@ -4,25 +4,25 @@ use Rattle.people.proofs.Layouts.{length-family}
 use Rattle.service.proofs.Marriages.{wed_first_missing, wed_second_missing, wed_not_allowed, wed_left}
 use Rattle.service.proofs.wed.Goals as goal
 
-pub returns-in-default : goal.returns-in-default
-returns-in-default c = record { served = λ ok. wed_first_missing c.args.memory.now c.args.one c.args.other ok c.in-default.ensures.cases }
+pub returns-in_default : goal.returns-in_default
+returns-in_default c = record { served = λ ok. wed_first_missing c.args.memory.now c.args.one c.args.other ok c.in_default.ensures.cases }
 
-pub returns-in-default-find : goal.returns-in-default-find
-returns-in-default-find c =
-    record { served = λ ok. wed_second_missing c.args.memory.now c.args.one c.args.other ok c.in-Some.ensures.cases.0 c.in-default-find.ensures.cases }
+pub returns-in_default-find : goal.returns-in_default-find
+returns-in_default-find c =
+    record { served = λ ok. wed_second_missing c.args.memory.now c.args.one c.args.other ok c.in-Some.ensures.cases.0 c.in_default-find.ensures.cases }
 
 pub wedded-requires : goal.wedded-requires
 wedded-requires c =
     let l = length-family c.args.memory.now in
     record { one = omega (arith, c.in-Some.ensures.cases.0); other = omega (arith, c.in-Some-find.ensures.cases.0) }
 
-pub returns-in-default-wedded : goal.returns-in-default-wedded
-returns-in-default-wedded c =
+pub returns-in_default-wedded : goal.returns-in_default-wedded
+returns-in_default-wedded c =
     let one = c.in-Some.ensures.cases in
     let other = c.in-Some-find.ensures.cases in
     record {
       served = λ ok. wed_not_allowed c.args.memory.now c.args.one c.args.other (law_person c.in-Some.first) (law_person c.in-Some-find.second) ok one.0 other.0 one.1 other.1
-          c.in-default-wedded.ensures.cases;
+          c.in_default-wedded.ensures.cases;
     }
 
 pub put-requires : goal.put-requires

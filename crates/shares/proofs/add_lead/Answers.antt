@@ -15,15 +15,15 @@ returns-in-Some c =
           let q = law_part c.in-Some.part in
           let whole = c.args.whole in
           let who = subst (λ l. All (λ (p : Part). p.who < c.args.persons) (lead_parts l)) c.in-Some.is there in
-          held_as m ps (more_pieces no_pieces q.who c.amount.result) (pieces whole (lead_parts c.args.lead)) rest c.args.persons c.add-pieces.new.work
+          held_as m ps (more_pieces no_pieces q.who c.amount.result) (pieces whole (lead_parts c.args.lead)) rest c.args.persons c.add_pieces.new.work
           (ap (more_pieces no_pieces q.who) c.amount.ensures.value ∙ lead_added whole q ∙ ap (λ l. pieces whole (lead_parts l)) (sym c.in-Some.is))
-          (c.add-pieces.ensures.left m ps no_pieces rest held (λ _. who.0) (omega (arith, c.amount.ensures.value, div-le_self whole q.by)));
+          (c.add_pieces.ensures.left m ps no_pieces rest held (λ _. who.0) (omega (arith, c.amount.ensures.value, div-le_self whole q.by)));
     }
 
-pub returns-in-default : goal.returns-in-default
-returns-in-default c =
+pub returns-in_default : goal.returns-in_default
+returns-in_default c =
     record {
       left = λ m ps rest held there.
           held_as m ps no_pieces (pieces c.args.whole (lead_parts c.args.lead)) rest c.args.persons c.args.work.now
-          (no_lead c.args.whole ∙ ap (λ l. pieces c.args.whole (lead_parts l)) (sym c.in-default.is)) held;
+          (no_lead c.args.whole ∙ ap (λ l. pieces c.args.whole (lead_parts l)) (sym c.in_default.is)) held;
     }

@@ -6,47 +6,47 @@ use Rattle.shares.specs.Work.{parts_in}
 use Rattle.shares.proofs.Multiples.{length-row, multiple_lead, number_lead, number_many, number_some, row_end, row_off, row_on, word_some}
 use Rattle.shares.proofs.whole.Goals as goal
 
-pub returns-then-parts-listed-gt-MOST-PARTS : goal.returns-then-parts-listed-gt-MOST-PARTS
-returns-then-parts-listed-gt-MOST-PARTS c =
+pub returns-then-parts_listed-gt-MOST_PARTS : goal.returns-then-parts_listed-gt-MOST_PARTS
+returns-then-parts_listed-gt-MOST_PARTS c =
     let ps = parts_in c.args.work.now 0 c.args.count in
     let row = whole_row c.args.lead c.args.times ps in
     let listed = length-row c.args.work.now c.args.lead c.args.times c.args.count in
     record { value = sym (number_many row (omega arith)) }
 
-pub returns-in-err-number : goal.returns-in-err-number
-returns-in-err-number c =
+pub returns-in_err-number : goal.returns-in_err-number
+returns-in_err-number c =
     let ps = parts_in c.args.work.now 0 c.args.count in
-    record { value = c.from-residual.ensures ∙ sym (number_lead c.args.lead c.args.times ps c.in-err-number.ensures.value) }
+    record { value = c.from_residual.ensures ∙ sym (number_lead c.args.lead c.args.times ps c.in_err-number.ensures.value) }
 
 pub returns-then-times-eq0 : goal.returns-then-times-eq0
 returns-then-times-eq0 c =
     let ps = parts_in c.args.work.now 0 c.args.count in
     let row = whole_row c.args.lead c.args.times ps in
-    let n = c.in-ok-number.number in
+    let n = c.in_ok-number.number in
     let listed = length-row c.args.work.now c.args.lead c.args.times c.args.count in
-    let first = c.in-ok-number.ensures.value in
+    let first = c.in_ok-number.ensures.value in
     record {
       value =
           sym (number_some row n (omega arith) (multiple_lead c.args.lead c.args.times ps n first c.if-times-eq0.true) (word_some (common_multiple (lead_parts c.args.lead) 1) n first).some);
     }
 
-pub returns-in-err-number-2 : goal.returns-in-err-number-2
-returns-in-err-number-2 c =
+pub returns-in_err-number-2 : goal.returns-in_err-number-2
+returns-in_err-number-2 c =
     record {
       value =
-          c.from-residual-in-err-number-2.ensures
-          ∙ sym (row_off c.args.work.now c.args.lead c.args.times c.args.count c.in-ok-number.number c.loop-i.i c.loop-i.number c.loop-i.invariant.0 c.in-ok-number.ensures.value c.if-times-eq0.false (law_part c.part-at.result) c.part-at.ensures.value c.loop-i-test.true c.in-err-number-2.ensures.value);
+          c.from_residual-in_err-number-2.ensures
+          ∙ sym (row_off c.args.work.now c.args.lead c.args.times c.args.count c.in_ok-number.number c.loop-i.i c.loop-i.number c.loop-i.invariant.0 c.in_ok-number.ensures.value c.if-times-eq0.false (law_part c.part_at.result) c.part_at.ensures.value c.loop-i-test.true c.in_err-number-2.ensures.value);
     }
 
 pub loop-i-preserved : goal.loop-i-preserved
 loop-i-preserved c =
-    row_on c.args.work.now c.args.lead c.args.times c.args.count c.in-ok-number.number c.loop-i.i c.loop-i.number c.loop-i.invariant.0
-    (law_part c.part-at.result) c.in-ok-number-2.number c.part-at.ensures.value c.loop-i-test.true c.in-ok-number-2.ensures.value
+    row_on c.args.work.now c.args.lead c.args.times c.args.count c.in_ok-number.number c.loop-i.i c.loop-i.number c.loop-i.invariant.0
+    (law_part c.part_at.result) c.in_ok-number-2.number c.part_at.ensures.value c.loop-i-test.true c.in_ok-number-2.ensures.value
 
 pub returns : goal.returns
 returns c =
     let listed = length-row c.args.work.now c.args.lead c.args.times c.args.count in
     record {
       value =
-          sym (row_end c.args.work.now c.args.lead c.args.times c.args.count c.in-ok-number.number c.loop-i.i c.loop-i.number c.loop-i.invariant.0 c.in-ok-number.ensures.value c.if-times-eq0.false c.loop-i-test.false c.loop-i.invariant.1 (omega arith));
+          sym (row_end c.args.work.now c.args.lead c.args.times c.args.count c.in_ok-number.number c.loop-i.i c.loop-i.number c.loop-i.invariant.0 c.in_ok-number.ensures.value c.if-times-eq0.false c.loop-i-test.false c.loop-i.invariant.1 (omega arith));
     }

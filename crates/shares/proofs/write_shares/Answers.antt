@@ -29,7 +29,7 @@ loop-who-preserved c =
           let next = c.in-Some.ensures.sets (parts_area ps) behind 128 (has_pieces g) among (length-area ps held.few) (omega arith) in
           let share = c.reduce-share.ensures.value ∙ (λ j. lowest_share (c.from-in-Some.ensures j) (c.from.ensures j) c.in-Some.who) in
           writing_on m ps g rest c.args.whole c.args.persons c.args.answer.now held.few held.within count from c.in-Some.who work c.loop-who.answer
-          c.put-share.new.out (law_share c.reduce-share.result) o next share c.put-share.ensures.left,
+          c.put_share.new.out (law_share c.reduce-share.result) o next share c.put_share.ensures.left,
     )
 
 pub returns : goal.returns
@@ -46,7 +46,7 @@ returns c =
           let o = c.loop-who.invariant.2 m ps g rest held in
           let behind = map (pieces_left g from) (range_with_len 0 m) ++ rest in
           let among = writing_heirs m ps g rest whole persons before count from work answer o in
-          let e = c.in-default.ensures.sets (parts_area ps) behind 128 (has_pieces g) among (length-area ps held.few) (omega arith) in
+          let e = c.in_default.ensures.sets (parts_area ps) behind 128 (has_pieces g) among (length-area ps held.few) (omega arith) in
           let cleared = c.clear.ensures.sets (parts_area ps) (bit_row 128 (has_pieces g)) behind among (length-area ps held.few) (length-bit_row 128 (has_pieces g)) in
           record {
             left =
@@ -55,7 +55,7 @@ returns c =
                   few = held.few;
                   within = held.within;
                 };
-            said = c.put-count.ensures.left ∙ writing_bytes m ps g rest whole persons before count from work answer o e;
+            said = c.put_count.ensures.left ∙ writing_bytes m ps g rest whole persons before count from work answer o e;
             next = writing_many m ps g rest whole persons before count from work answer o e;
           };
     }

@@ -3,8 +3,8 @@ use Rattle.succession.specs.Orders.{order_number}
 use Rattle.succession.proofs.Spouses.{estate_alone, beside_children, beside_nobody, beside_parents, beside_grandparents, numbers_alone, numbers_beside}
 use Rattle.succession.proofs.beside_spouse.Goals as goal
 
-pub returns-in-default : goal.returns-in-default
-returns-in-default c = record { small = omega arith; some = omega arith; value = λ f d s o. estate_alone f d (sym c.in-default.is ∙ s); numbers = λ f d s o. numbers_alone f d _ (sym c.in-default.is ∙ s) o }
+pub returns-in_default : goal.returns-in_default
+returns-in_default c = record { small = omega arith; some = omega arith; value = λ f d s o. estate_alone f d (sym c.in_default.is ∙ s); numbers = λ f d s o. numbers_alone f d _ (sym c.in_default.is ∙ s) o }
 
 pub returns-in-Children : goal.returns-in-Children
 returns-in-Children c =

@@ -7,19 +7,19 @@ use Rattle.descent.specs.Going.{Gone, parts_below}
 use Rattle.succession.proofs.Lines.{couple_row, begun_more, gone_first, gone_then}
 use Rattle.succession.proofs.couple_lines.Goals as goal
 
-pub returns-in-default : goal.returns-in-default
-returns-in-default c =
+pub returns-in_default : goal.returns-in_default
+returns-in_default c =
     let ws = c.args.memory.now in
     let a = c.args.two.mother in
     let b = c.args.two.father in
     let each = c.args.by * c.living_lines.result in
     record {
-      limit = c.line-of.ensures.limit;
-      count = c.line-of.ensures.count;
+      limit = c.line_of.ensures.limit;
+      count = c.line_of.ensures.count;
       gone = λ n f rk ps spare rest begun m d.
           let k = c.living_lines.ensures.value n (length f) f (alive f) (work_of n ps no_member no_pieces spare) rest begun.words (omega (arith, begun.room)) (omega (arith, begun.room)) in
-          subst (λ row. Gone n f spare rest ps row c.line-of.new.memory None) (sym (couple_row f a b c.args.by each (ap (λ j. c.args.by * j) k)))
-          (gone_first n f spare rest ps (parts_below f each (known a)) (parts_below f each (known b)) c.line-of.new.memory (c.in-default.ensures.gone n f rk ps spare rest begun m));
+          subst (λ row. Gone n f spare rest ps row c.line_of.new.memory None) (sym (couple_row f a b c.args.by each (ap (λ j. c.args.by * j) k)))
+          (gone_first n f spare rest ps (parts_below f each (known a)) (parts_below f each (known b)) c.line_of.new.memory (c.in_default.ensures.gone n f rk ps spare rest begun m));
     }
 
 pub returns : goal.returns
@@ -29,13 +29,13 @@ returns c =
     let b = c.args.two.father in
     let each = c.args.by * c.living_lines.result in
     record {
-      limit = c.line-of-2.ensures.limit ∙ c.line-of.ensures.limit;
-      count = c.line-of-2.ensures.count ∙ c.line-of.ensures.count;
+      limit = c.line_of-2.ensures.limit ∙ c.line_of.ensures.limit;
+      count = c.line_of-2.ensures.count ∙ c.line_of.ensures.count;
       gone = λ n f rk ps spare rest begun m d.
           let k = c.living_lines.ensures.value n (length f) f (alive f) (work_of n ps no_member no_pieces spare) rest begun.words (omega (arith, begun.room)) (omega (arith, begun.room)) in
           let first = c.in-Some.ensures.gone n f rk ps spare rest begun m in
-          let more = begun_more ws c.line-of.new.memory n f rk ps (parts_below f each (known a)) spare rest c.args.count c.in-Some.at begun first in
-          subst (λ row. Gone n f spare rest ps row c.line-of-2.new.memory c.line-of-2.result) (sym (couple_row f a b c.args.by each (ap (λ j. c.args.by * j) k)))
-          (gone_then n f spare rest ps (parts_below f each (known a)) (parts_below f each (known b)) c.line-of-2.new.memory c.line-of-2.result first.3
-          (c.line-of-2.ensures.gone n f rk (ps ++ parts_below f each (known a)) spare rest more d));
+          let more = begun_more ws c.line_of.new.memory n f rk ps (parts_below f each (known a)) spare rest c.args.count c.in-Some.at begun first in
+          subst (λ row. Gone n f spare rest ps row c.line_of-2.new.memory c.line_of-2.result) (sym (couple_row f a b c.args.by each (ap (λ j. c.args.by * j) k)))
+          (gone_then n f spare rest ps (parts_below f each (known a)) (parts_below f each (known b)) c.line_of-2.new.memory c.line_of-2.result first.3
+          (c.line_of-2.ensures.gone n f rk (ps ++ parts_below f each (known a)) spare rest more d));
     }

@@ -5,12 +5,12 @@ use Rattle.people.proofs.Layouts.{limit_laid}
 use Rattle.succession.specs.Orders.{line_in}
 use Rattle.succession.proofs.has_line.Goals as goal
 
-pub returns-in-default : goal.returns-in-default
-returns-in-default c =
+pub returns-in_default : goal.returns-in_default
+returns-in_default c =
     record {
       value = λ n k f s work rest e le.
           let l = limit_laid c.args.memory.now n k (person_row f) (link_row f) s work rest e in
-          sym (ap (λ z. line_in s z) (⊎_elim (λ z. z) (λ z. absurd (omega arith)) c.in-default.ensures.cases));
+          sym (ap (λ z. line_in s z) (⊎_elim (λ z. z) (λ z. absurd (omega arith)) c.in_default.ensures.cases));
     }
 
 pub returns : goal.returns

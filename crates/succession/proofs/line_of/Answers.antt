@@ -11,15 +11,15 @@ use Rattle.succession.specs.Orders.{line_in}
 use Rattle.succession.proofs.Lines.{below_none, below_one, gone_nothing, begun_ready}
 use Rattle.succession.proofs.line_of.Goals as goal
 
-pub returns-in-default : goal.returns-in-default
-returns-in-default c =
+pub returns-in_default : goal.returns-in_default
+returns-in_default c =
     let ws = c.args.memory.now in
     record {
       limit = refl;
       count = refl;
       gone = λ n f rk ps spare rest begun le.
           let l = limit_laid ws n (length f) (person_row f) (link_row f) (alive f) (work_of n ps no_member no_pieces spare) rest begun.words in
-          let zero' : c.args.link ≡ 0 = ⊎_elim (λ z. z) (λ z. absurd (omega (arith, begun.room))) c.in-default.ensures.cases in
+          let zero' : c.args.link ≡ 0 = ⊎_elim (λ z. z) (λ z. absurd (omega (arith, begun.room))) c.in_default.ensures.cases in
           gone_nothing ws n f rk ps (parts_below f c.args.by (known c.args.link)) spare rest c.args.count begun
           (below_none f c.args.by c.args.link (ap (λ z. line_in (alive f) z) zero'));
     }

@@ -7,12 +7,12 @@ use Rattle.people.proofs.Layouts.{limit_laid, person_laid}
 use Rattle.succession.proofs.Spouses.{spouse_none, spouse_dead, spouse_lives}
 use Rattle.succession.proofs.living_spouse.Goals as goal
 
-pub returns-in-default : goal.returns-in-default
-returns-in-default c =
+pub returns-in_default : goal.returns-in_default
+returns-in_default c =
     record {
       value = λ n k f s work rest d e is le.
           let l = limit_laid c.args.memory.now n k (person_row f) (link_row f) s work rest e in
-          spouse_none f d (sym is ∙ ⊎_elim (λ z. z) (λ z. absurd (omega arith)) c.in-default.ensures.cases);
+          spouse_none f d (sym is ∙ ⊎_elim (λ z. z) (λ z. absurd (omega arith)) c.in_default.ensures.cases);
     }
 
 pub returns-then-read : goal.returns-then-read

@@ -7,12 +7,12 @@ use Rattle.people.proofs.Layouts.{limit_laid, person_laid}
 use Rattle.succession.specs.Orders.{parents_at}
 use Rattle.succession.proofs.parents_of.Goals as goal
 
-pub returns-in-default : goal.returns-in-default
-returns-in-default c =
+pub returns-in_default : goal.returns-in_default
+returns-in_default c =
     record {
       value = λ n k f s work rest e le.
           let l = limit_laid c.args.memory.now n k (person_row f) (link_row f) s work rest e in
-          sym (ap (λ z. parents_at f z) (⊎_elim (λ z. z) (λ z. absurd (omega arith)) c.in-default.ensures.cases));
+          sym (ap (λ z. parents_at f z) (⊎_elim (λ z. z) (λ z. absurd (omega arith)) c.in_default.ensures.cases));
     }
 
 pub returns : goal.returns

@@ -12,14 +12,14 @@ use Rattle.descent.proofs.Rows.{spare_words}
 use Rattle.succession.proofs.Settling.{there_more, spouse_within, begun_none, cut_none, cut_some, settled_beyond, handed_words, row_sound, settled_within}
 use Rattle.succession.proofs.settle.Goals as goal
 
-pub returns-in-default : goal.returns-in-default
-returns-in-default c =
+pub returns-in_default : goal.returns-in_default
+returns-in_default c =
     let ws = c.args.memory.now in
     let who = c.args.who in
-    let at = c.work-at-at.result in
-    let begins = c.work-at-at.ensures.value in
+    let at = c.work_at-at.result in
+    let begins = c.work_at-at.ensures.value in
     let mem = c.relatives.new.memory in
-    let beside = c.beside-spouse-beside.result in
+    let beside = c.beside_spouse-beside.result in
     record {
       limit = ap (λ u. get_or u 0 0) c.clear.ensures.left ∙ get_or-written_before at 0 (replicate 8192 0) mem 0 (omega arith) ∙ c.relatives.ensures.limit;
       count = ap (λ u. get_or u 1 0) c.clear.ensures.left ∙ get_or-written_before at 1 (replicate 8192 0) mem 0 (omega arith) ∙ c.relatives.ensures.count;
@@ -28,24 +28,24 @@ returns-in-default c =
           let l = limit_laid ws n (length f) (person_row f) (link_row f) (alive f) work rest e in
           let room = d.room in
           let there = d.there in
-          let order = c.order-of-order.ensures.value n f work rest e (there_more f n room d.parents) in
+          let order = c.order_of-order.ensures.value n f work rest e (there_more f n room d.parents) in
           let read : c.read-spouse.result.spouse ≡ (person f who).spouse =
           ap (λ (x : Person). x.spouse) (c.read-spouse.ensures.value ∙ person_laid ws n (length f) f (link_row f) (alive f) work rest who e (omega arith)) in
           let spouse = c.living_spouse.ensures.value n (length f) f (alive f) work rest who e read (omega (arith, spouse_within f who d.formed)) in
-          let row = c.beside-spouse-beside.ensures.value f who spouse order ∙ sym (estate_already d.formed who d.dead).2 in
+          let row = c.beside_spouse-beside.ensures.value f who spouse order ∙ sym (estate_already d.formed who d.dead).2 in
           let gone = c.relatives.ensures.gone n f d.formed.rank (spare_words n) rest (begun_none ws n f rest who e d) d.parents there order in
-          settled_beyond n f rest who beside.lead beside.times (kept_relatives f who beside.by) mem c.clear.new.row c.args.answer.now at row c.beside-spouse-beside.ensures.some
-          (cut_none n f (spare_words n) rest (kept_relatives f who beside.by) mem c.relatives.result c.in-default.ensures.value gone) (omega arith) c.clear.ensures.left;
+          settled_beyond n f rest who beside.lead beside.times (kept_relatives f who beside.by) mem c.clear.new.row c.args.answer.now at row c.beside_spouse-beside.ensures.some
+          (cut_none n f (spare_words n) rest (kept_relatives f who beside.by) mem c.relatives.result c.in_default.ensures.value gone) (omega arith) c.clear.ensures.left;
     }
 
 pub returns : goal.returns
 returns c =
     let ws = c.args.memory.now in
     let who = c.args.who in
-    let at = c.work-at-at.result in
-    let begins = c.work-at-at.ensures.value in
+    let at = c.work_at-at.result in
+    let begins = c.work_at-at.ensures.value in
     let mem = c.relatives.new.memory in
-    let beside = c.beside-spouse-beside.result in
+    let beside = c.beside_spouse-beside.result in
     let count = c.in-Some.count in
     record {
       limit = get_or-put_before at (length mem - at) 0 mem c.settle.new.work 0 (omega arith) (omega arith) ∙ c.relatives.ensures.limit;
@@ -55,12 +55,12 @@ returns c =
           let l = limit_laid ws n (length f) (person_row f) (link_row f) (alive f) work rest e in
           let room = d.room in
           let there = d.there in
-          let order = c.order-of-order.ensures.value n f work rest e (there_more f n room d.parents) in
+          let order = c.order_of-order.ensures.value n f work rest e (there_more f n room d.parents) in
           let read : c.read-spouse.result.spouse ≡ (person f who).spouse =
           ap (λ (x : Person). x.spouse) (c.read-spouse.ensures.value ∙ person_laid ws n (length f) f (link_row f) (alive f) work rest who e (omega arith)) in
           let spouse = c.living_spouse.ensures.value n (length f) f (alive f) work rest who e read (omega (arith, spouse_within f who d.formed)) in
           let row = kept_relatives f who beside.by in
-          let is = c.beside-spouse-beside.ensures.value f who spouse order ∙ sym (estate_already d.formed who d.dead).2 in
+          let is = c.beside_spouse-beside.ensures.value f who spouse order ∙ sym (estate_already d.formed who d.dead).2 in
           let gone = cut_some n f (spare_words n) rest row mem count c.relatives.result c.in-Some.ensures.value
           (c.relatives.ensures.gone n f d.formed.rank (spare_words n) rest (begun_none ws n f rest who e d) d.parents there order) in
           let start : at ≡ 130 + 8 * n = omega arith in

@@ -19,18 +19,18 @@ parents_within f n (suc p) there = there p
 pub returns : goal.returns
 returns c =
     let one = c.one_if.ensures.value in
-    let two = c.one-if-2.ensures.value in
+    let two = c.one_if-2.ensures.value in
     let a = c.args.two.mother in
     let b = c.args.two.father in
     record {
-      few = omega (arith, one, two, at_most_one (ltb 0 c.living_lines.result), at_most_one (ltb 0 c.living-lines-2.result));
+      few = omega (arith, one, two, at_most_one (ltb 0 c.living_lines.result), at_most_one (ltb 0 c.living_lines-2.result));
       value = λ n f work rest e there m d.
-          let mother = c.parents-of-mother.ensures.value n (length f) f (alive f) work rest e m in
-          let father = c.parents-of-father.ensures.value n (length f) f (alive f) work rest e d in
+          let mother = c.parents_of-mother.ensures.value n (length f) f (alive f) work rest e m in
+          let father = c.parents_of-father.ensures.value n (length f) f (alive f) work rest e d in
           let ms = parents_within f n a there in
           let ds = parents_within f n b there in
           let k = c.living_lines.ensures.value n (length f) f (alive f) work rest e (subst (λ x. x.mother ≤ n) (sym mother) ms.0) (subst (λ x. x.father ≤ n) (sym mother) ms.1) in
-          let j = c.living-lines-2.ensures.value n (length f) f (alive f) work rest e (subst (λ x. x.mother ≤ n) (sym father) ds.0) (subst (λ x. x.father ≤ n) (sym father) ds.1) in (
+          let j = c.living_lines-2.ensures.value n (length f) f (alive f) work rest e (subst (λ x. x.mother ≤ n) (sym father) ds.0) (subst (λ x. x.father ≤ n) (sym father) ds.1) in (
             mother,
             father,
             (λ i. one i + two i)

@@ -9,7 +9,7 @@ pub loop-line-preserved : goal.loop-line-preserved
 loop-line-preserved c =
     let ps = c.args.persons.now in
     agreed_more (length ps) c.loop-line.line (map law_person c.loop-line.persons) (agreed (length ps) 0 (map law_person ps)) (map law_person c.answer.new.persons) (omega arith)
-    c.in-default.ensures.left c.loop-line.invariant
+    c.in_default.ensures.left c.loop-line.invariant
 
 pub returns-in-Err : goal.returns-in-Err
 returns-in-Err c =

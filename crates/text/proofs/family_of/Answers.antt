@@ -21,19 +21,19 @@ returns-in-Err-agree c =
     record {
       value =
           joined (names_of (said_in es)) (vec_items c.in-Ok.persons) (persons_in (names_of (said_in es)) (said_in es) []) (Err c.in-Err-agree.fault)
-          (ap (told (λ v. map law_person (vec_items v))) (sym c.in-Ok.is) ∙ c.in-ok-persons.ensures.value)
-          (c.in-Err-agree.ensures.left ∙ ap (λ (ps : List Person). agreed (length ps) 0 (map law_person ps)) c.as-mut-slice.ensures.value);
+          (ap (told (λ v. map law_person (vec_items v))) (sym c.in-Ok.is) ∙ c.in_ok-persons.ensures.value)
+          (c.in-Err-agree.ensures.left ∙ ap (λ (ps : List Person). agreed (length ps) 0 (map law_person ps)) c.as_mut_slice.ensures.value);
     }
 
 pub returns : goal.returns
 returns c =
     let es = c.args.entries.now in
     let old = c.in-Ok.persons in
-    let same = with_items_is old c.agree.new.persons (omega (arith, c.agree.auto.persons, ap length c.as-mut-slice.ensures.value, old.ok.0)) in
+    let same = with_items_is old c.agree.new.persons (omega (arith, c.agree.auto.persons, ap length c.as_mut_slice.ensures.value, old.ok.0)) in
     record {
       value =
-          (λ i. Ok (record { names = c.in-ok-names.ensures.value i; family = map law_person (same i) }))
+          (λ i. Ok (record { names = c.in_ok-names.ensures.value i; family = map law_person (same i) }))
           ∙ joined (names_of (said_in es)) (vec_items old) (persons_in (names_of (said_in es)) (said_in es) []) (Ok (map law_person c.agree.new.persons))
-          (ap (told (λ v. map law_person (vec_items v))) (sym c.in-Ok.is) ∙ c.in-ok-persons.ensures.value)
-          (c.in-default.ensures.left ∙ ap (λ (ps : List Person). agreed (length ps) 0 (map law_person ps)) c.as-mut-slice.ensures.value);
+          (ap (told (λ v. map law_person (vec_items v))) (sym c.in-Ok.is) ∙ c.in_ok-persons.ensures.value)
+          (c.in_default.ensures.left ∙ ap (λ (ps : List Person). agreed (length ps) 0 (map law_person ps)) c.as_mut_slice.ensures.value);
     }

@@ -21,8 +21,8 @@ loop-turn-init c = let all : c.args.number - 0 ≡ c.args.number = omega arith i
 
 pub loop-turn-preserved : goal.loop-turn-preserved
 loop-turn-preserved c =
-    one_more c.args.number c.loop-turn.turn c.loop-turn.rest.now c.behind-line-rest.result.now (line_at c.args.number c.args.input.now) (omega arith)
-    c.behind-line-rest.ensures.value c.loop-turn.invariant
+    one_more c.args.number c.loop-turn.turn c.loop-turn.rest.now c.behind_line-rest.result.now (line_at c.args.number c.args.input.now) (omega arith)
+    c.behind_line-rest.ensures.value c.loop-turn.invariant
 
 pub returns-in-Some : goal.returns-in-Some
 returns-in-Some c =

@@ -16,7 +16,7 @@ one_more es i d rs later h q inv =
 
 pub loop-entry-preserved : goal.loop-entry-preserved
 loop-entry-preserved c =
-    one_more c.args.entries.now c.loop-entry.entry-index _ (vec_items c.loop-entry.names) (vec_items c.push.new.self) (omega arith) c.in-ok-push.ensures.items
+    one_more c.args.entries.now c.loop-entry.entry-index _ (vec_items c.loop-entry.names) (vec_items c.push.new.self) (omega arith) c.in_ok-push.ensures.items
     c.loop-entry.invariant
 
 pub returns : goal.returns

@@ -6,41 +6,41 @@ use Rattle.text.specs.Reading.{person_of}
 use Rattle.text.proofs.Persons.{no_mother, no_father, one_parent, with_parents}
 use Rattle.text.proofs.person_of.Goals as goal
 
-pub returns-in-err-mother : goal.returns-in-err-mother
+pub returns-in_err-mother : goal.returns-in_err-mother
 unfolding person_of
-returns-in-err-mother c =
-    let p = err_from_is_err_and c.from-residual.result c.from-residual.ensures.1 in
-    record { value = ap person_said p.1 ∙ (ap Err p.2 ∙ no_mother _ _ _ _ c.in-err-mother.field-0.0 c.in-err-mother.ensures.value) }
+returns-in_err-mother c =
+    let p = err_from_is_err_and c.from_residual.result c.from_residual.ensures.1 in
+    record { value = ap person_said p.1 ∙ (ap Err p.2 ∙ no_mother _ _ _ _ c.in_err-mother.field-0.0 c.in_err-mother.ensures.value) }
 
-pub returns-in-err-father : goal.returns-in-err-father
+pub returns-in_err-father : goal.returns-in_err-father
 unfolding person_of
-returns-in-err-father c =
-    let p = err_from_is_err_and c.from-residual-in-err-father.result c.from-residual-in-err-father.ensures.1 in
+returns-in_err-father c =
+    let p = err_from_is_err_and c.from_residual-in_err-father.result c.from_residual-in_err-father.ensures.1 in
     record {
       value =
           ap person_said p.1
-          ∙ (ap Err p.2 ∙ no_father _ _ _ _ c.in-err-father.field-0.0 c.in-ok-mother.mother c.in-ok-mother.ensures.value c.in-err-father.ensures.value);
+          ∙ (ap Err p.2 ∙ no_father _ _ _ _ c.in_err-father.field-0.0 c.in_ok-mother.mother c.in_ok-mother.ensures.value c.in_err-father.ensures.value);
     }
 
-pub returns-then-are-one : goal.returns-then-are-one
+pub returns-then-are_one : goal.returns-then-are_one
 unfolding person_of
-returns-then-are-one c =
+returns-then-are_one c =
     record {
       value =
-          one_parent _ _ _ _ c.in-ok-mother.mother c.in-ok-father.father c.in-ok-mother.ensures.value c.in-ok-father.ensures.value
-          c.if-are-one.ensures.value;
+          one_parent _ _ _ _ c.in_ok-mother.mother c.in_ok-father.father c.in_ok-mother.ensures.value c.in_ok-father.ensures.value
+          c.if-are_one.ensures.value;
     }
 
-pub returns-in-err-spouse : goal.returns-in-err-spouse
+pub returns-in_err-spouse : goal.returns-in_err-spouse
 unfolding person_of
-returns-in-err-spouse c =
-    let p = err_from_is_err_and c.from-residual-in-err-spouse.result c.from-residual-in-err-spouse.ensures.1 in
+returns-in_err-spouse c =
+    let p = err_from_is_err_and c.from_residual-in_err-spouse.result c.from_residual-in_err-spouse.ensures.1 in
     record {
       value =
           ap person_said p.1
           ∙ (ap Err p.2
-          ∙ with_parents _ _ _ _ c.in-ok-mother.mother c.in-ok-father.father (Err c.in-err-spouse.field-0.0) c.in-ok-mother.ensures.value
-          c.in-ok-father.ensures.value c.if-are-one.ensures.value c.in-err-spouse.ensures.value);
+          ∙ with_parents _ _ _ _ c.in_ok-mother.mother c.in_ok-father.father (Err c.in_err-spouse.field-0.0) c.in_ok-mother.ensures.value
+          c.in_ok-father.ensures.value c.if-are_one.ensures.value c.in_err-spouse.ensures.value);
     }
 
 pub returns : goal.returns
@@ -48,6 +48,6 @@ unfolding person_of
 returns c =
     record {
       value =
-          with_parents _ _ _ _ c.in-ok-mother.mother c.in-ok-father.father (Ok c.in-ok-spouse.spouse) c.in-ok-mother.ensures.value
-          c.in-ok-father.ensures.value c.if-are-one.ensures.value c.in-ok-spouse.ensures.value;
+          with_parents _ _ _ _ c.in_ok-mother.mother c.in_ok-father.father (Ok c.in_ok-spouse.spouse) c.in_ok-mother.ensures.value
+          c.in_ok-father.ensures.value c.if-are_one.ensures.value c.in_ok-spouse.ensures.value;
     }

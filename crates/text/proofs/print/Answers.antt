@@ -17,5 +17,5 @@ pub returns : goal.returns
 unfolding family_text ReadsBack
 returns c =
     let h = household c.args.family.now in
-    let text = shown _ _ _ _ _ _ c.new-text.ensures.bytes c.as-slice.ensures.value c.as-slice-2.ensures.value c.in-ok-put-family.ensures.lines in
+    let text = shown _ _ _ _ _ _ c.new-text.ensures.bytes c.as_slice.ensures.value c.as_slice-2.ensures.value c.in_ok-put_family.ensures.lines in
     record { lines = text; back = λ valid. ap read_family text ∙ reads_back h valid }

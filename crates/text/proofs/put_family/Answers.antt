@@ -20,11 +20,11 @@ loop-place-preserved c =
     let many = length-map rs (λ (n : Bor (List ℕ)). n.now) in
     let few = length-map ps law_person in
     printed_more (bytes_of rs) (map law_person ps) text
-    (string_bytes c.args.text.now ++ text_lines (lines_for (bytes_of rs) (bytes_of rs) (map law_person ps))) i (string_bytes c.put-line.new.text)
+    (string_bytes c.args.text.now ++ text_lines (lines_for (bytes_of rs) (bytes_of rs) (map law_person ps))) i (string_bytes c.put_line.new.text)
     (omega (arith, many, c.min-place-end.ensures)) (omega (arith, few, c.min-place-end.ensures))
-    (c.in-ok-put-line.ensures.lines
+    (c.in_ok-put_line.ensures.lines
     ∙ ap (λ (l : Line). text ++ row l)
-    (c.entry-for-entry.ensures.value ∙ (λ k. line_for (bytes_of rs) (sym (name_taken rs (record { ref_ptr = (0, 0); now = [] }) i (omega (arith, c.min-place-end.ensures))) k) (sym (person_there ps i) k)))) c.loop-place.invariant
+    (c.entry_for-entry.ensures.value ∙ (λ k. line_for (bytes_of rs) (sym (name_taken rs (record { ref_ptr = (0, 0); now = [] }) i (omega (arith, c.min-place-end.ensures))) k) (sym (person_there ps i) k)))) c.loop-place.invariant
 
 pub returns : goal.returns
 returns c =

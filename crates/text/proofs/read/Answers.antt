@@ -28,10 +28,10 @@ pub returns-in-Ok : goal.returns-in-Ok
 unfolding read_family
 returns-in-Ok c =
     let bs = c.args.input.now in
-    let lines = ap (told (λ v. said_in (vec_items v))) (sym c.in-Ok.is) ∙ c.in-ok-entries.ensures.value in
+    let lines = ap (told (λ v. said_in (vec_items v))) (sym c.in-Ok.is) ∙ c.in_ok-entries.ensures.value in
     let value =
     IfOk-weaker c.family_of.result _ (λ x. told household x ≡ read_family bs)
-    (λ x e. e ∙ (ap (λ (es : List Entry). persons_of (said_in es)) c.as-slice.ensures.value ∙ ap (λ (r : Result (List Line) Fault). with_persons r) lines)) c.family_of.ensures.value
+    (λ x e. e ∙ (ap (λ (es : List Entry). persons_of (said_in es)) c.as_slice.ensures.value ∙ ap (λ (r : Result (List Line) Fault). with_persons r) lines)) c.family_of.ensures.value
     in
     record {
       value = value;
@@ -42,5 +42,5 @@ returns-in-Ok c =
 pub returns-in-Err : goal.returns-in-Err
 unfolding read_family
 returns-in-Err c =
-    let lines = ap (told (λ v. said_in (vec_items v))) (sym c.in-Err.is) ∙ c.in-ok-entries.ensures.value in
+    let lines = ap (told (λ v. said_in (vec_items v))) (sym c.in-Err.is) ∙ c.in_ok-entries.ensures.value in
     record { value = ap (λ (r : Result (List Line) Fault). with_persons r) lines; valid = tt; built = tt }

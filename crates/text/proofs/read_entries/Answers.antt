@@ -23,8 +23,8 @@ loop-rest-preserved c =
     let es = vec_items c.loop-rest.entries in
     let x : Next = record { line = said_by c.in-Ok.entry; rest = c.in-Ok.behind.now } in
     let bs = c.loop-rest.rest.now in
-    one_more es (vec_items c.push.new.self) bs (lines_in 65 c.args.input.now []) c.in-Ok.entry x c.in-ok-push.ensures.items (λ i. x.line) (omega arith)
-    (c.in-Ok.ensures.value ∙ ap (λ (ys : List Entry). next_line (said_in ys) bs) c.as-slice.ensures.value) c.loop-rest.invariant.0
+    one_more es (vec_items c.push.new.self) bs (lines_in 65 c.args.input.now []) c.in-Ok.entry x c.in_ok-push.ensures.items (λ i. x.line) (omega arith)
+    (c.in-Ok.ensures.value ∙ ap (λ (ys : List Entry). next_line (said_in ys) bs) c.as_slice.ensures.value) c.loop-rest.invariant.0
 
 pub returns-in-Err : goal.returns-in-Err
 returns-in-Err c =
@@ -35,7 +35,7 @@ returns-in-Err c =
       value =
           ap (λ (n : ℕ). Err (fault n r)) (omega (arith, c.len.ensures, c.loop-rest.entries.ok.0, length-map es (λ y. said_by y)))
           ∙ lines_fault (said_in es) bs (lines_in 65 c.args.input.now []) r (omega arith) (omega (arith, length-map es (λ y. said_by y), c.loop-rest.invariant.1))
-          (sym (c.in-Err.ensures.value ∙ ap (λ (ys : List Entry). next_line (said_in ys) bs) c.as-slice.ensures.value)) c.loop-rest.invariant.0;
+          (sym (c.in-Err.ensures.value ∙ ap (λ (ys : List Entry). next_line (said_in ys) bs) c.as_slice.ensures.value)) c.loop-rest.invariant.0;
       few = tt;
     }
 

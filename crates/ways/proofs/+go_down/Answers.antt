@@ -29,30 +29,30 @@ loop-index-preserved t c = λ right.
     let before = law_ways (vec_items c.args.ways.now) in
     let mid = law_ways (vec_items c.loop-index.ways) in
     let after = law_ways (vec_items c.if-stands.ways) in
-    let line : vec_items c.in-ok-line.line ≡ xs ++ (p ∷ []) = c.in-ok-line.ensures.value in
+    let line : vec_items c.in_ok-line.line ≡ xs ++ (p ∷ []) = c.in_ok-line.ensures.value in
     let row = line_ways_in (suc n) f d (xs ++ (p ∷ [])) p b in
     let went : after ≡ mid ++ row =
     elim c.if-stands.branch [
       | then-stands+in-ok-went w ↦
           ap (λ v. law_ways (vec_items v)) w.ways-is
-          ∙ ap law_ways (cond_holds w.in-ok-went.went _ _ (sym w.went-is ∙ c.if-not-went.false) w.in-ok-went.ensures.value)
+          ∙ ap law_ways (cond_holds w.in_ok-went.went _ _ (sym w.went-is ∙ c.if-not-went.false) w.in_ok-went.ensures.value)
           ∙ map-append law_way (vec_items c.loop-index.ways) _
           ∙ ap (λ (l : List ℕ). mid ++ (record { line = l; who = p; by = b } ∷ [])) line
           ∙ ap (λ r. mid ++ r) (sym (way_standing f d n (xs ++ (p ∷ [])) p b (sym c.stands.ensures.value ∙ w.if-stands.true)))
       | else-stands+in-ok-below w ↦
-          elim w.match-each-of.branch [
+          elim w.match-each_of.branch [
             | in-Some+in-ok-went-2 v ↦
-                let cs = vec_items w.in-ok-below.below in
+                let cs = vec_items w.in_ok-below.below in
                 let each = v.in-Some.each in
                 let found = v.in-Some.ensures.cases in
-                let long : w.len.result ≡ length cs = w.len.ensures ∙ w.in-ok-below.below.ok.0 in
-                let done = subst (λ z. Went f d (n - 1) v.as-slice.result.now v.as-slice-in-Some.result.now each mid (law_ways (vec_items v.go-down.new.ways)) z) (sym v.went-is ∙ sym w.went-is ∙ c.if-not-went.false) (v.in-ok-went-2.ensures.went right) in
+                let long : w.len.result ≡ length cs = w.len.ensures ∙ w.in_ok-below.below.ok.0 in
+                let done = subst (λ z. Went f d (n - 1) v.as_slice.result.now v.as_slice-in-Some.result.now each mid (law_ways (vec_items v.go_down.new.ways)) z) (sym v.went-is ∙ sym w.went-is ∙ c.if-not-went.false) (v.in_ok-went-2.ensures.went right) in
                 ap (λ u. law_ways (vec_items u)) (w.ways-is ∙ v.ways-is)
                 ∙ done
-                ∙ ap (λ ys. mid ++ ways_below (n - 1) f d ys v.as-slice-in-Some.result.now each) (v.as-slice.ensures.value ∙ line)
-                ∙ ap (λ zs. mid ++ ways_below (n - 1) f d (xs ++ (p ∷ [])) zs each) v.as-slice-in-Some.ensures.value
+                ∙ ap (λ ys. mid ++ ways_below (n - 1) f d ys v.as_slice-in-Some.result.now each) (v.as_slice.ensures.value ∙ line)
+                ∙ ap (λ zs. mid ++ ways_below (n - 1) f d (xs ++ (p ∷ [])) zs each) v.as_slice-in-Some.ensures.value
                 ∙ ap (λ r. mid ++ r)
-                (sym (way_divided f d n (in_row c.args.lives.now) (xs ++ (p ∷ [])) cs p b each right w.in-ok-below.ensures.value (sym c.stands.ensures.value ∙ w.if-stands.false) (found.0 ∙ ap (λ k. b * k) long) found.1))
+                (sym (way_divided f d n (in_row c.args.lives.now) (xs ++ (p ∷ [])) cs p b each right w.in_ok-below.ensures.value (sym c.stands.ensures.value ∙ w.if-stands.false) (found.0 ∙ ap (λ k. b * k) long) found.1))
             | in-None v ↦ absurd (both_ways c.if-stands.went (w.went-is ∙ v.went-is) c.if-not-went.false)
           ]
     ] in
@@ -88,27 +88,27 @@ returns-then-not-went t c =
           let stop : Beyond mid row =
           elim c.if-stands.branch [
             | then-stands+in-ok-went w ↦
-                let full = cond_fails w.in-ok-went.went _ _ (sym w.went-is ∙ c.if-not-went.true) w.in-ok-went.ensures.value in
+                let full = cond_fails w.in_ok-went.went _ _ (sym w.went-is ∙ c.if-not-went.true) w.in_ok-went.ensures.value in
                 let one = ap length (way_standing f d n (xs ++ (p ∷ [])) p b (sym stands ∙ w.if-stands.true)) in
                 inl (omega (arith, one, full, c.loop-index.ways.ok.0, length-map (vec_items c.loop-index.ways) law_way))
             | else-stands+in-ok-below w ↦
-                let cs = vec_items w.in-ok-below.below in
+                let cs = vec_items w.in_ok-below.below in
                 let dead = sym stands ∙ w.if-stands.false in
-                let long : w.len.result ≡ length cs = w.len.ensures ∙ w.in-ok-below.below.ok.0 in
+                let long : w.len.result ≡ length cs = w.len.ensures ∙ w.in_ok-below.below.ok.0 in
                 let found : cs ≡ living_lines f d (children f p) =
-                w.in-ok-below.ensures.value
+                w.in_ok-below.ensures.value
                 ∙ kept_cong (in_row c.args.lives.now) (line_lives f d) (children f p) (all_any (λ q. in_row c.args.lives.now q ≡ line_lives f d q) right (children f p)) in
-                elim w.match-each-of.branch [
+                elim w.match-each_of.branch [
                   | in-Some+in-ok-went-2 v ↦
                       let each = v.in-Some.each in
                       let met = v.in-Some.ensures.cases in
-                      let done = subst (λ z. Went f d (n - 1) v.as-slice.result.now v.as-slice-in-Some.result.now each mid (law_ways (vec_items v.go-down.new.ways)) z) (sym v.went-is ∙ sym w.went-is ∙ c.if-not-went.true) (v.in-ok-went-2.ensures.went right) in
-                      let same : ways_below (n - 1) f d v.as-slice.result.now v.as-slice-in-Some.result.now each ≡ row =
-                      ap (λ ys. ways_below (n - 1) f d ys v.as-slice-in-Some.result.now each) (v.as-slice.ensures.value ∙ c.in-ok-line.ensures.value)
-                      ∙ ap (λ zs. ways_below (n - 1) f d (xs ++ (p ∷ [])) zs each) v.as-slice-in-Some.ensures.value
-                      ∙ sym (way_divided f d n (in_row c.args.lives.now) (xs ++ (p ∷ [])) cs p b each right w.in-ok-below.ensures.value dead (met.0 ∙ ap (λ k. b * k) long) met.1) in
+                      let done = subst (λ z. Went f d (n - 1) v.as_slice.result.now v.as_slice-in-Some.result.now each mid (law_ways (vec_items v.go_down.new.ways)) z) (sym v.went-is ∙ sym w.went-is ∙ c.if-not-went.true) (v.in_ok-went-2.ensures.went right) in
+                      let same : ways_below (n - 1) f d v.as_slice.result.now v.as_slice-in-Some.result.now each ≡ row =
+                      ap (λ ys. ways_below (n - 1) f d ys v.as_slice-in-Some.result.now each) (v.as_slice.ensures.value ∙ c.in_ok-line.ensures.value)
+                      ∙ ap (λ zs. ways_below (n - 1) f d (xs ++ (p ∷ [])) zs each) v.as_slice-in-Some.ensures.value
+                      ∙ sym (way_divided f d n (in_row c.args.lives.now) (xs ++ (p ∷ [])) cs p b each right w.in_ok-below.ensures.value dead (met.0 ∙ ap (λ k. b * k) long) met.1) in
                       subst (λ r. Beyond mid r) same
-                      (done rk ranked (enough_below f d ranked n p v.as-slice-in-Some.result.now (v.as-slice-in-Some.ensures.value ∙ found) here met.1))
+                      (done rk ranked (enough_below f d ranked n p v.as_slice-in-Some.result.now (v.as_slice-in-Some.ensures.value ∙ found) here met.1))
                   | in-None v ↦
                       ⊎_elim (λ (z : n ≡ 0). absurd (no_steps f d ranked p (subst (λ m. Enough f rk d m p) z here) dead))
                       (λ (z : 4294967296 ≤ b * w.len.result).

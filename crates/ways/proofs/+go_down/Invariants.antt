@@ -3,8 +3,8 @@ use Rattle.ways.specs.Rows.{family_of, in_row, law_ways}
 use Rattle.ways.specs.Going.{ways_below, Marks}
 use Rattle.ways.proofs.+go_down.Given as goal
 
-abbrev pub decreases-go-down : goal.decreases-go-down
-decreases-go-down l = l.steps
+abbrev pub decreases-go_down : goal.decreases-go_down
+decreases-go_down l = l.steps
 
 abbrev pub invariant-loop-index : goal.invariant-loop-index
 invariant-loop-index l =

@@ -15,19 +15,19 @@ loop-child-preserved c =
     let f = family_of c.args.family.now in
     let n = length c.args.family.now in
     let i = c.loop-child.child in
-    ap (λ t. t || some_from s f c.args.parent n (i + 1)) (sym c.if-is-child-in.false ∙ c.is-child-in.ensures.value)
+    ap (λ t. t || some_from s f c.args.parent n (i + 1)) (sym c.if-is_child_in.false ∙ c.is_child_in.ensures.value)
     ∙ sym (some_on s f c.args.parent n i c.loop-child-test.true)
     ∙ c.loop-child.invariant
 
-pub returns-then-is-child-in : goal.returns-then-is-child-in
-returns-then-is-child-in c =
+pub returns-then-is_child_in : goal.returns-then-is_child_in
+returns-then-is_child_in c =
     let s = in_row c.args.set.now in
     let f = family_of c.args.family.now in
     let n = length c.args.family.now in
     let i = c.loop-child.child in
     record {
       value =
-          ap (λ t. t || some_from s f c.args.parent n (i + 1)) (sym c.if-is-child-in.true ∙ c.is-child-in.ensures.value)
+          ap (λ t. t || some_from s f c.args.parent n (i + 1)) (sym c.if-is_child_in.true ∙ c.is_child_in.ensures.value)
           ∙ sym (some_on s f c.args.parent n i c.loop-child-test.true)
           ∙ c.loop-child.invariant;
     }

@@ -12,13 +12,13 @@ use Rattle.std.proofs.lemmas.Bool.Decides.{Decides-eqb}
 
 pub loop-step-init : goal.loop-step-init
 loop-step-init c =
-    c.in-ok-lives.ensures.items-if-clones-equal (λ y e. e)
+    c.in_ok-lives.ensures.items-if-clones-equal (λ y e. e)
     ∙ seen_none (family_of c.args.family.now) c.args.decedent (length c.args.family.now) (length-map c.args.family.now law_person)
 
 pub loop-step-preserved : goal.loop-step-preserved
 loop-step-preserved c =
-    c.in-ok-next.ensures.value
-    ∙ seen_more (family_of c.args.family.now) c.args.decedent c.loop-step.step (length c.args.family.now) c.as-slice.result.now (c.as-slice.ensures.value ∙ c.loop-step.invariant)
+    c.in_ok-next.ensures.value
+    ∙ seen_more (family_of c.args.family.now) c.args.decedent c.loop-step.step (length c.args.family.now) c.as_slice.result.now (c.as_slice.ensures.value ∙ c.loop-step.invariant)
     (length-map c.args.family.now law_person)
 
 pub returns : goal.returns
@@ -35,11 +35,11 @@ returns c =
             | else-loop-step-test w ↦ c.loop-step.invariant ∙ seen_all f d k n (omega arith) c.loop-step.auto.step-end same ∙ long
             | then-loop-step-test+in-ok-next+then-eq w ↦
                 let eq = (slice_eq-Decides Decides-eqb _ _ _ w.eq.ensures).0 w.if-eq.true in
-                let next : vec_items w.in-ok-next.next ≡ seen f d (k + 1) =
-                w.in-ok-next.ensures.value ∙ seen_more f d k n w.as-slice.result.now (w.as-slice.ensures.value ∙ c.loop-step.invariant) same in
+                let next : vec_items w.in_ok-next.next ≡ seen f d (k + 1) =
+                w.in_ok-next.ensures.value ∙ seen_more f d k n w.as_slice.result.now (w.as_slice.ensures.value ∙ c.loop-step.invariant) same in
                 c.loop-step.invariant
                 ∙ seen_same f d k (omega arith)
-                (sym next ∙ sym w.as-slice-in-loop-step.ensures.value ∙ eq ∙ w.as-slice-in-loop-step-2.ensures.value ∙ c.loop-step.invariant)
+                (sym next ∙ sym w.as_slice-in-loop-step.ensures.value ∙ eq ∙ w.as_slice-in-loop-step-2.ensures.value ∙ c.loop-step.invariant)
                 ∙ long
           ];
     }

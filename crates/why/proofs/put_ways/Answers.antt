@@ -19,10 +19,10 @@ loop-way-preserved c =
       | then-way-heir+in-ok-reason+in-ok-push w ↦
           found_here c.args.up c.args.ways.now c.args.heir c.loop-way.way-index x entry before (explanations (vec_items c.if-way-heir.found)) c.loop-way-test.true c.way-item.is
           w.if-way-heir.true c.loop-way.invariant
-          (ap (λ v. explanations (vec_items v)) w.found-is ∙ ap explanations w.in-ok-push.ensures.items
-          ∙ map-append explanation (vec_items c.loop-way.found) (w.in-ok-reason.reason ∷ [])
+          (ap (λ v. explanations (vec_items v)) w.found-is ∙ ap explanations w.in_ok-push.ensures.items
+          ∙ map-append explanation (vec_items c.loop-way.found) (w.in_ok-reason.reason ∷ [])
           ∙ ap (λ (e : LinePart). before ++ (e ∷ []))
-          (w.in-ok-reason.ensures.value ∙ ap (λ l. record { line = l; part = lowest_terms c.args.up x.by }) w.as-slice.ensures.value))
+          (w.in_ok-reason.ensures.value ∙ ap (λ l. record { line = l; part = lowest_terms c.args.up x.by }) w.as_slice.ensures.value))
       | else-way-heir w ↦
           ap (λ v. explanations (vec_items v)) w.found-is
           ∙ found_elsewhere c.args.up c.args.ways.now c.args.heir c.loop-way.way-index x entry before c.loop-way-test.true c.way-item.is w.if-way-heir.false c.loop-way.invariant

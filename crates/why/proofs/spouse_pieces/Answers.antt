@@ -9,7 +9,7 @@ pub returns-in-Some : goal.returns-in-Some
 returns-in-Some c =
     record {
       value =
-          c.amount-to.ensures.value ∙ sym (one_piece c.args.whole c.args.heir c.in-Some.part)
+          c.amount_to.ensures.value ∙ sym (one_piece c.args.whole c.args.heir c.in-Some.part)
           ∙ ap (λ s. way_pieces c.args.whole (map (counted 1) (lead_ways s)) c.args.heir) (sym c.in-Some.is);
     }
 

@@ -10,12 +10,12 @@ pub returns-in-Divided : goal.returns-in-Divided
 returns-in-Divided c =
     record {
       right =
-          IfOk-weaker c.share-or-cause.result _ _
+          IfOk-weaker c.share_or_cause.result _ _
           (λ y right formed.
           let f = family_of c.args.family.now in
-          let out = subst (OutcomeRight f c.args.decedent) c.in-Divided.is (c.in-ok-divide.ensures.outcome formed.rank formed.ranked) in
+          let out = subst (OutcomeRight f c.args.decedent) c.in-Divided.is (c.in_ok-divide.ensures.outcome formed.rank formed.ranked) in
           let size = length-map c.args.family.now law_person in
           let there = out.0 in
           right formed (omega arith) out.1)
-          c.share-or-cause.ensures.right;
+          c.share_or_cause.ensures.right;
     }

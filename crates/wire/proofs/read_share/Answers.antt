@@ -13,11 +13,11 @@ returns-then-index-count c =
     let e = shares_told bs c.in_ok-count.field-0 n c.in-Shares.is c.in_ok-count.ensures.value in
     record { value = sym (slice_get_past (shares_from bs 5 n) i (omega (arith, length_from bs 5 n))) ∙ ap (λ a. share_in a i) e }
 
-pub share-at-requires : goal.share-at-requires
-share-at-requires c =
+pub share_at-requires : goal.share_at-requires
+share_at-requires c =
     let bs = c.args.bytes.now in
     let n = c.in-Shares.count in
-    let e = shares_told bs c.in-ok-count.field-0 n c.in-Shares.is c.in-ok-count.ensures.value in
+    let e = shares_told bs c.in_ok-count.field-0 n c.in-Shares.is c.in_ok-count.ensures.value in
     record { room = omega (arith, shares_whole bs n e) }
 
 pub returns : goal.returns

@@ -12,14 +12,14 @@ returns-in-Refused c = rw c.in-Refused.is (record { value = ap Some (sym (length
 pub returns-in-Number : goal.returns-in-Number
 returns-in-Number c = rw c.in-Number.is (record { value = ap Some (sym (length-number c.in-Number.field-0)) })
 
-pub returns-then-heirs-gt-MOST-SHARES : goal.returns-then-heirs-gt-MOST-SHARES
-returns-then-heirs-gt-MOST-SHARES c =
+pub returns-then-heirs-gt-MOST_SHARES : goal.returns-then-heirs-gt-MOST_SHARES
+returns-then-heirs-gt-MOST_SHARES c =
     let many = length-map c.in-Shares.heirs.now law_share in
     let e = le-ltb (length (map law_share c.in-Shares.heirs.now)) 4294967296 (omega arith) in
     rw c.in-Shares.is (record { value = rw e })
 
-pub returns-else-heirs-gt-MOST-SHARES : goal.returns-else-heirs-gt-MOST-SHARES
-returns-else-heirs-gt-MOST-SHARES c =
+pub returns-else-heirs-gt-MOST_SHARES : goal.returns-else-heirs-gt-MOST_SHARES
+returns-else-heirs-gt-MOST_SHARES c =
     let many = length-map c.in-Shares.heirs.now law_share in
     let e = lt-ltb (length (map law_share c.in-Shares.heirs.now)) 4294967296 (omega arith) in
     let long = length-shares (map law_share c.in-Shares.heirs.now) in
