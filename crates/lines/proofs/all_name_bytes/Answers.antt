@@ -16,7 +16,7 @@ pub loop-byte-preserved : goal.loop-byte-preserved
 loop-byte-preserved c =
     let bs = c.args.bytes.now in
     let i = c.loop-byte.byte-index in
-    let e = c.if-not-is-name-byte.ensures.value in
+    let e = c.if-not-is_name_byte.ensures.value in
     let d = ap name_bytes (drop_more bs i 0 (omega arith)) in
     ap (λ b. b && name_bytes (drop (i + 1) bs)) e ∙ (sym d ∙ c.loop-byte.invariant)
 

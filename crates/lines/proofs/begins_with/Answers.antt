@@ -8,4 +8,4 @@ pub returns : goal.returns
 returns c =
     let s = c.args.text.now in
     let w = c.args.word.now in
-    record { value = begins_is s w c.starts-with.result (starts_is Decides-eqb s w c.starts-with.result c.starts-with.ensures.value) }
+    record { value = begins_is s w c.starts_with.result (starts_is Decides-eqb s w c.starts_with.result c.starts_with.ensures.value) }

@@ -13,8 +13,8 @@ loop-byte-preserved c =
     let bs = c.args.bytes.now in
     let i = c.loop-byte.byte-index in
     let d = ap characters (drop_more bs i 0 (omega arith)) in (
-      omega (arith, d, c.loop-byte.invariant.0, c.starts-character-count.ensures.value),
-      omega (arith, c.loop-byte.invariant.1, c.starts-character-count.ensures.value, at_most_one (get_or bs i 0)),
+      omega (arith, d, c.loop-byte.invariant.0, c.starts_character-count.ensures.value),
+      omega (arith, c.loop-byte.invariant.1, c.starts_character-count.ensures.value, at_most_one (get_or bs i 0)),
     )
 
 pub returns : goal.returns

@@ -18,7 +18,7 @@ loop-at-preserved c =
     let w = c.args.word.now in
     let bs = c.args.text.now in
     let at = c.loop-at.at in
-    passed_more w bs at (omega arith) (sym (c.if-begins-with.ensures.value ∙ ap (begins w) (take_rest bs at))) c.loop-at.invariant
+    passed_more w bs at (omega arith) (sym (c.if-begins_with.ensures.value ∙ ap (begins w) (take_rest bs at))) c.loop-at.invariant
 
 pub slice-bounds-result-count-then-begins-with : goal.slice-bounds-result-count-then-begins-with
 slice-bounds-result-count-then-begins-with c =

@@ -16,7 +16,7 @@ returns-then-is-and c =
     record { value = sym (step c.args.bytes.now c.loop-at.at true (omega arith) c.if-is-and.ensures.value) ∙ c.loop-at.invariant }
 
 pub loop-at-preserved : goal.loop-at-preserved
-loop-at-preserved c = sym (step c.args.bytes.now c.loop-at.at false (omega arith) c.if-is-and.ensures.value) ∙ c.loop-at.invariant
+loop-at-preserved c = sym (step c.args.bytes.now c.loop-at.at false (omega arith) c.if-is_and.ensures.value) ∙ c.loop-at.invariant
 
 pub returns : goal.returns
 unfolding has_and

@@ -19,7 +19,7 @@ pub returns : goal.returns
 returns c =
     record {
       lines =
-          line_made c.push.result (string_bytes c.args.text.now) (string_bytes c.push-str.new.self) (string_bytes c.put-parents.new.text) (string_bytes c.put-death.new.text)
+          line_made c.push.result (string_bytes c.args.text.now) (string_bytes c.push_str.new.self) (string_bytes c.put_parents.new.text) (string_bytes c.put-death.new.text)
           (string_bytes c.put-spouse.new.text) _ _ _ _ _ (encode 10) c.in-ok-push-str.ensures.bytes c.in-ok-put-parents.ensures.lines
           c.in-ok-put-death.ensures.lines c.in-ok-put-spouse.ensures.lines c.push.ensures.bytes (c.push.ensures.ascii (omega arith));
     }

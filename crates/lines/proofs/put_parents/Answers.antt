@@ -9,8 +9,8 @@ pub returns-in-None-Some : goal.returns-in-None-Some
 returns-in-None-Some c =
     record {
       lines =
-          same_text c.put-both.result _ _ _ _ (λ i. parents_text (option_map (λ x. x.now) (sym c.in-None-Some.is-0 i)) (option_map (λ x. x.now) (sym c.in-None-Some.is-1 i)))
-          c.put-both.ensures.lines;
+          same_text c.put_both.result _ _ _ _ (λ i. parents_text (option_map (λ x. x.now) (sym c.in-None-Some.is-0 i)) (option_map (λ x. x.now) (sym c.in-None-Some.is-1 i)))
+          c.put_both.ensures.lines;
     }
 
 pub returns-in-ok-push-str : goal.returns-in-ok-push-str

@@ -54,8 +54,8 @@ returns-in-err-spouse c =
 pub returns : goal.returns
 returns c =
     let pieces =
-    read_pieces c.args.line.now (split c.split-off.result) (split c.split-off-2.result) (split c.split-off-3.result) c.split-off.ensures.value
-    c.split-off-2.ensures.value c.split-off-3.ensures.value
+    read_pieces c.args.line.now (split c.split_off.result) (split c.split_off-2.result) (split c.split-off-3.result) c.split_off.ensures.value
+    c.split_off-2.ensures.value c.split-off-3.ensures.value
     in
     record {
       value =
