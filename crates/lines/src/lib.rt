@@ -235,7 +235,7 @@ pub fn read_line(line: &[u8]) -> Option<Entry<'_>>
 fn put_both(text: &mut String, mother: &str, father: &str) -> Result<(), AllocError>
     ensures lines { OnOk result (string_bytes text.new ≡ string_bytes text.old ++ (codes ", of " ++ (mother.now ++ (codes " and " ++ father.now)))) }
 {
-    let parents = format!(in text.allocator(); ", of {mother} and {father}")?;
+    let parents = format!(in *text.allocator(); ", of {mother} and {father}")?;
     text.push_str(parents.as_str())
 }
 
