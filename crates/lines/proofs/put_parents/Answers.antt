@@ -13,11 +13,11 @@ returns-in-None-Some c =
           c.put_both.ensures.lines;
     }
 
-pub returns-in_ok-push_str : goal.returns-in_ok-push_str
-returns-in_ok-push_str c =
+pub returns-in_ok-push_str-in-Some-None : goal.returns-in_ok-push_str-in-Some-None
+returns-in_ok-push_str-in-Some-None c =
     record {
       lines =
           appended_two c.push_str-in-Some-None.result _ (string_bytes c.push_str.new.self) _ (codes ", of ") c.in-Some-None.mother.now _
-          c.in_ok-push_str.ensures.bytes c.push_str-in-Some-None.ensures.bytes
+          c.in_ok-push_str-in-Some-None.ensures.bytes c.push_str-in-Some-None.ensures.bytes
           (λ i. parents_text (option_map (λ x. x.now) (sym c.in-Some-None.is-0 i)) (option_map (λ x. x.now) (sym c.in-Some-None.is-1 i)));
     }

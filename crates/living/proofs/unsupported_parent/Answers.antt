@@ -11,7 +11,7 @@ use Rattle.living.proofs.Bits.{member_laid}
 use Rattle.living.proofs.Raising.{support_lives}
 use Rattle.living.proofs.Scans.{nobody_unsupported, out_unsupported, kept_unsupported, found_unsupported, scan_none, scan_more, scan_child, scan_all, of_two_within, first_found, none_found}
 use Rattle.living.proofs.unsupported_parent.Goals as goal
-use Rattle.living.proofs.unsupported_parent.Goals.{then-not-contains-via-then-not-contains, then-not-contains-via-else-not-contains+then-read, else-loop-turn-test, then-loop-turn-test+in-default-somebody}
+use Rattle.living.proofs.unsupported_parent.Goals.{then-not-contains-via-then-not-contains, then-not-contains-via-else-not-contains+then-read, else-loop-turn-test, then-loop-turn-test+in_default-somebody}
 
 pub parents-init : goal.parents-init
 parents-init c n f s work rest held m d i h = absurd (omega arith)
@@ -97,7 +97,7 @@ returns-in-parents c =
           scan_all f s p c.loop-turn.turn n c.loop-turn.link held.1 inv.0
           (elim c.loop-turn-test.branch [
             | else-loop-turn-test w ↦ inl (omega (arith, w.loop-turn-test.false))
-            | then-loop-turn-test+in-default-somebody w ↦ inr (⊎_elim (λ z. inl z) (λ z. inr (omega arith)) w.in_default-somebody.ensures.cases)
+            | then-loop-turn-test+in_default-somebody w ↦ inr (⊎_elim (λ z. inl z) (λ z. inr (omega arith)) w.in_default-somebody.ensures.cases)
           ])
           inv.1 in
           first_found f s c.args.mother c.args.father c.parents.side p c.parents-test.true at (c.parents.invariant n f s work rest held m d)

@@ -11,7 +11,7 @@ use Rattle.passes.proofs.Walks.{line_met, lines_met}
 use Rattle.passes.proofs.Rows.{rowed_limit, rowed_count, counts_read}
 use Rattle.passes.proofs.Listings.{is_listed, not_listed, listed_stop, listed_open, all_none, all_more, ready_line, listing_line, room_for, steps_some}
 use Rattle.passes.proofs.+list.Goals as goal
-use Rattle.passes.proofs.+list.Goals.{else-loop-turn-test, then-loop-turn-test+in-default}
+use Rattle.passes.proofs.+list.Goals.{else-loop-turn-test, then-loop-turn-test+in_default}
 
 pub returns-then-steps-eq0 : goal.returns-then-steps-eq0
 returns-then-steps-eq0 t c =
@@ -116,7 +116,7 @@ returns t c =
           lines_met f who i n c.loop-turn.link ready.rows.room inv.0
           (elim c.loop-turn-test.branch [
             | else-loop-turn-test w ↦ inl (omega (arith, w.loop-turn-test.false, c.loop-turn.invariant.1))
-            | then-loop-turn-test+in-default w ↦ inr (⊎_elim (λ z. inl z) (λ z. inr (omega arith)) w.in_default.ensures.cases)
+            | then-loop-turn-test+in_default w ↦ inr (⊎_elim (λ z. inl z) (λ z. inr (omega arith)) w.in_default.ensures.cases)
           ]) in
           let all : all_listed g (take i ds) out ≡ now = ap (λ xs. all_listed g xs out) (take_all i ds met) in
           let opened : listed_in c.args.steps (divided_among f) who out ≡ who ∷ now = listed_open c.args.steps (divided_among f) who out c.if-steps-eq0.false new in

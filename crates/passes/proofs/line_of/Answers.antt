@@ -8,7 +8,7 @@ use Rattle.passes.proofs.Walks.{line_met, lines_met}
 use Rattle.passes.proofs.Rows.{rowed_limit, rowed_count}
 use Rattle.passes.proofs.Steps.{parts_more, common_more, common_none, parts_all, common_all}
 use Rattle.passes.proofs.line_of.Goals as goal
-use Rattle.passes.proofs.line_of.Goals.{else-loop-turn-test, then-loop-turn-test+in-default}
+use Rattle.passes.proofs.line_of.Goals.{else-loop-turn-test, then-loop-turn-test+in_default}
 
 pub loop-turn-init : goal.loop-turn-init
 loop-turn-init c = (
@@ -52,7 +52,7 @@ returns c =
           lines_met f who i n c.loop-turn.link held.room inv.0
           (elim c.loop-turn-test.branch [
             | else-loop-turn-test w ↦ inl (omega (arith, w.loop-turn-test.false))
-            | then-loop-turn-test+in-default w ↦ inr (⊎_elim (λ z. inl z) (λ z. inr (omega arith)) w.in_default.ensures.cases)
+            | then-loop-turn-test+in_default w ↦ inr (⊎_elim (λ z. inl z) (λ z. inr (omega arith)) w.in_default.ensures.cases)
           ]) in
           let lines : c.loop-turn.lines ≡ length ds = let m = inv.1 in let z = c.loop-turn.invariant.0 in omega arith in (
             c.divided.ensures.parts

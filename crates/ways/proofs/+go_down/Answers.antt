@@ -11,7 +11,7 @@ use Rattle.ways.specs.Rows.{family_of, in_row, law_way, law_ways}
 use Rattle.ways.specs.Going.{ways_below, Enough, Beyond, Went, Marks}
 use Rattle.ways.proofs.Going.{way_standing, way_divided, below_more, stopped_at, no_steps, enough_below, line_large, cond_holds, cond_fails, went_on}
 use Rattle.ways.proofs.+go_down.Goals as goal
-use Rattle.ways.proofs.+go_down.Goals.{then-stands+in-ok-went, else-stands+in-ok-below, in-Some+in-ok-went-2, in-None}
+use Rattle.ways.proofs.+go_down.Goals.{then-stands+in_ok-went, else-stands+in_ok-below, in-Some+in_ok-went-2, in-None}
 
 pub loop-index-init : goal.loop-index-init
 loop-index-init t c = λ right. sym (append-nil (law_ways (vec_items c.args.ways.now)))
@@ -33,15 +33,15 @@ loop-index-preserved t c = λ right.
     let row = line_ways_in (suc n) f d (xs ++ (p ∷ [])) p b in
     let went : after ≡ mid ++ row =
     elim c.if-stands.branch [
-      | then-stands+in-ok-went w ↦
+      | then-stands+in_ok-went w ↦
           ap (λ v. law_ways (vec_items v)) w.ways-is
           ∙ ap law_ways (cond_holds w.in_ok-went.went _ _ (sym w.went-is ∙ c.if-not-went.false) w.in_ok-went.ensures.value)
           ∙ map-append law_way (vec_items c.loop-index.ways) _
           ∙ ap (λ (l : List ℕ). mid ++ (record { line = l; who = p; by = b } ∷ [])) line
           ∙ ap (λ r. mid ++ r) (sym (way_standing f d n (xs ++ (p ∷ [])) p b (sym c.stands.ensures.value ∙ w.if-stands.true)))
-      | else-stands+in-ok-below w ↦
+      | else-stands+in_ok-below w ↦
           elim w.match-each_of.branch [
-            | in-Some+in-ok-went-2 v ↦
+            | in-Some+in_ok-went-2 v ↦
                 let cs = vec_items w.in_ok-below.below in
                 let each = v.in-Some.each in
                 let found = v.in-Some.ensures.cases in
@@ -87,11 +87,11 @@ returns-then-not-went t c =
           let stands = c.stands.ensures.value in
           let stop : Beyond mid row =
           elim c.if-stands.branch [
-            | then-stands+in-ok-went w ↦
+            | then-stands+in_ok-went w ↦
                 let full = cond_fails w.in_ok-went.went _ _ (sym w.went-is ∙ c.if-not-went.true) w.in_ok-went.ensures.value in
                 let one = ap length (way_standing f d n (xs ++ (p ∷ [])) p b (sym stands ∙ w.if-stands.true)) in
                 inl (omega (arith, one, full, c.loop-index.ways.ok.0, length-map (vec_items c.loop-index.ways) law_way))
-            | else-stands+in-ok-below w ↦
+            | else-stands+in_ok-below w ↦
                 let cs = vec_items w.in_ok-below.below in
                 let dead = sym stands ∙ w.if-stands.false in
                 let long : w.len.result ≡ length cs = w.len.ensures ∙ w.in_ok-below.below.ok.0 in
@@ -99,7 +99,7 @@ returns-then-not-went t c =
                 w.in_ok-below.ensures.value
                 ∙ kept_cong (in_row c.args.lives.now) (line_lives f d) (children f p) (all_any (λ q. in_row c.args.lives.now q ≡ line_lives f d q) right (children f p)) in
                 elim w.match-each_of.branch [
-                  | in-Some+in-ok-went-2 v ↦
+                  | in-Some+in_ok-went-2 v ↦
                       let each = v.in-Some.each in
                       let met = v.in-Some.ensures.cases in
                       let done = subst (λ z. Went f d (n - 1) v.as_slice.result.now v.as_slice-in-Some.result.now each mid (law_ways (vec_items v.go_down.new.ways)) z) (sym v.went-is ∙ sym w.went-is ∙ c.if-not-went.true) (v.in_ok-went-2.ensures.went right) in

@@ -5,7 +5,7 @@ use Rattle.people.specs.Persons.{law_person}
 use Rattle.ways.specs.Rows.{family_of, in_row}
 use Rattle.ways.proofs.Walks.{kept_from, kept_on, kept_end, kept_all}
 use Rattle.ways.proofs.children_in.Goals as goal
-use Rattle.ways.proofs.children_in.Goals.{then-is_child-in+in-ok-push, else-is_child_in}
+use Rattle.ways.proofs.children_in.Goals.{then-is_child_in+in_ok-push, else-is_child_in}
 
 pub loop-child-init : goal.loop-child-init
 loop-child-init c =
@@ -24,7 +24,7 @@ loop-child-preserved c =
     let next = kept_on s f c.args.parent n i c.loop-child-test.true in
     let met = c.is_child_in.ensures.value in
     elim c.if-is_child_in.branch [
-      | then-is-child-in+in-ok-push w ↦
+      | then-is_child_in+in_ok-push w ↦
           ap (λ (v : List ℕ). v ++ rest) (ap vec_items w.found-is ∙ w.in_ok-push.ensures.items)
           ∙ append_assoc (vec_items c.loop-child.found) (i ∷ []) rest
           ∙ ap (λ (xs : List ℕ). vec_items c.loop-child.found ++ xs) (sym (next ∙ cond-true _ (i ∷ rest) rest (sym met ∙ w.if-is_child_in.true)))

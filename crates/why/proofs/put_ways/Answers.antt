@@ -3,7 +3,7 @@ use Rattle.std.proofs.lemmas.List.{append-nil, map-append}
 use Rattle.why.specs.Explained.{LinePart, explanation, explanations, parts_to, lowest_terms}
 use Rattle.why.proofs.Heirs.{so_far, so_far_none, so_far_all, found_here, found_elsewhere}
 use Rattle.why.proofs.put_ways.Goals as goal
-use Rattle.why.proofs.put_ways.Goals.{then-way-heir+in-ok-reason+in-ok-push, else-way-heir}
+use Rattle.why.proofs.put_ways.Goals.{then-way-heir+in_ok-reason+in_ok-push, else-way-heir}
 
 pub loop-way-init : goal.loop-way-init
 loop-way-init c =
@@ -16,7 +16,7 @@ loop-way-preserved c =
     let before = explanations (vec_items c.loop-way.found) in
     let x = c.way-item.result in
     elim c.if-way-heir.branch [
-      | then-way-heir+in-ok-reason+in-ok-push w ↦
+      | then-way-heir+in_ok-reason+in_ok-push w ↦
           found_here c.args.up c.args.ways.now c.args.heir c.loop-way.way-index x entry before (explanations (vec_items c.if-way-heir.found)) c.loop-way-test.true c.way-item.is
           w.if-way-heir.true c.loop-way.invariant
           (ap (λ v. explanations (vec_items v)) w.found-is ∙ ap explanations w.in_ok-push.ensures.items
