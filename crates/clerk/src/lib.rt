@@ -129,7 +129,7 @@ fn put_heir(text: &mut String, names: &[&str], share: Share) -> Result<(), Alloc
 {
     let Share { who, up, down } = share;
     let name = name_of(names, who);
-    let line = format!(in text.allocator(); "{name} {up}/{down}\n")?;
+    let line = format!(in *text.allocator(); "{name} {up}/{down}\n")?;
     text.push_str(line.as_str())
 }
 

@@ -57,7 +57,7 @@ fn put_heirs(
     ensures lines { OnOk result (((f : Family) (d : ℕ) → WellFormed f → DividedByWays f d estate.now → string_bytes text.new ≡ string_bytes text.old ++ heirs_lines (names_of names.now) f d count)) }
 {
     for who in 0..count {
-        let reasons = why::explain_share(text.allocator(), estate, who)?;
+        let reasons = why::explain_share(*text.allocator(), estate, who)?;
         put_heir(text, names, who, &reasons)?;
     }
     Ok(())
@@ -108,7 +108,7 @@ pub fn table_lines(
 ) -> Result<(), AllocError>
     ensures lines { OnOk result ((WellFormed (family_of family.now) → string_bytes text.new ≡ string_bytes text.old ++ table_said (names_of names.now) (family_of family.now) decedent)) }
 {
-    match reasons::divide(text.allocator(), family, decedent)? {
+    match reasons::divide(*text.allocator(), family, decedent)? {
         Outcome::NotThere => text.push_str("refused 4 at 0\n"),
         Outcome::BeyondLimit => text.push_str("refused 6 at 0\n"),
         Outcome::Divided(estate) => put_table(text, names, &estate, family.len()),

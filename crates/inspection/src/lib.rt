@@ -169,7 +169,7 @@ fn child_behind(memory: &[u32], parent: u32, child: u32) -> u32
 fn are_links(memory: &[u32], at: usize, links: Links) -> bool
     requires room { at + 4 ≤ length memory.now }
     ensures value { result ≡ ((slice_index memory.now at == links.first && slice_index memory.now (at + 1) == links.last)
-        && ((slice_index memory.now (at + 2) == links).of_mother && (slice_index memory.now (at + 3) == links).of_father)) }
+        && (slice_index memory.now (at + 2) == links.of_mother && slice_index memory.now (at + 3) == links.of_father)) }
 {
     (memory[at] == links.first && memory[at + 1] == links.last)
         && (memory[at + 2] == links.of_mother && memory[at + 3] == links.of_father)

@@ -22,7 +22,7 @@ pub fn put_person(text: &mut String, names: &[&str], who: usize) -> Result<(), A
         text.push_str(names[who])?;
         return Ok(());
     }
-    let number = format!(in text.allocator(); "{who}")?;
+    let number = format!(in *text.allocator(); "{who}")?;
     text.push_str(number.as_str())?;
     Ok(())
 }
@@ -57,7 +57,7 @@ pub fn put_fraction(text: &mut String, fraction: Fraction) -> Result<(), AllocEr
     ensures lines { OnOk result (string_bytes text.new ≡ string_bytes text.old ++ fraction_text fraction) }
 {
     let Fraction { up, down } = fraction;
-    let shown = format!(in text.allocator(); "{up}/{down}")?;
+    let shown = format!(in *text.allocator(); "{up}/{down}")?;
     text.push_str(shown.as_str())
 }
 
@@ -127,7 +127,7 @@ pub fn why_lines(
 ) -> Result<(), AllocError>
     ensures lines { OnOk result (((a : Answer) × (string_bytes text.new ≡ string_bytes text.old ++ answer_lines (names_of names.now) a) × (WellFormed (family_of family.now) → AnswerRight (family_of family.now) decedent who a))) }
 {
-    let answer = why::why(text.allocator(), family, decedent, who)?;
+    let answer = why::why(*text.allocator(), family, decedent, who)?;
     put_answer(text, names, &answer)?;
     Ok(())
 }

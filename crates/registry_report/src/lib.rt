@@ -32,7 +32,7 @@ pub fn row_size(input: &[u8]) -> usize
 fn put_refusal_line(text: &mut String, refusal: u32, place: u32) -> Result<(), AllocError>
     ensures lines { OnOk result (string_bytes text.new ≡ string_bytes text.old ++ refusal_line refusal place) }
 {
-    let line = format!(in text.allocator(); "refused {refusal} at {place}\n")?;
+    let line = format!(in *text.allocator(); "refused {refusal} at {place}\n")?;
     text.push_str(line.as_str())
 }
 
@@ -40,7 +40,7 @@ fn put_refusal_line(text: &mut String, refusal: u32, place: u32) -> Result<(), A
 fn put_number_line(text: &mut String, value: u32) -> Result<(), AllocError>
     ensures lines { OnOk result (string_bytes text.new ≡ string_bytes text.old ++ number_line value) }
 {
-    let line = format!(in text.allocator(); "{value}\n")?;
+    let line = format!(in *text.allocator(); "{value}\n")?;
     text.push_str(line.as_str())
 }
 
@@ -49,7 +49,7 @@ fn put_share_line(text: &mut String, share: Share) -> Result<(), AllocError>
     ensures lines { OnOk result (string_bytes text.new ≡ string_bytes text.old ++ share_line (law_share share)) }
 {
     let Share { who, up, down } = share;
-    let line = format!(in text.allocator(); "{who} {up}/{down}\n")?;
+    let line = format!(in *text.allocator(); "{who} {up}/{down}\n")?;
     text.push_str(line.as_str())
 }
 

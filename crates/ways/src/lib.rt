@@ -201,7 +201,7 @@ pub fn go_down(
 ) -> Result<bool, AllocError>
     ensures went { IfOk result (λ t. (Marks (family_of family.now) decedent (in_row lives.now) → Went (family_of family.now) decedent steps above.now heads.now by (law_ways ways.old.items) (law_ways ways.new.items) t)) }
 {
-    let heap = ways.allocator();
+    let heap = *ways.allocator();
     for index in 0..heads.len() {
         let who = heads[index];
         let line = extended(heap, above, who)?;

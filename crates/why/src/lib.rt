@@ -81,7 +81,7 @@ fn put_spouse(
         return Ok(());
     };
     if part.who as usize == heir {
-        let reason = explain(found.allocator(), &[], 1, part.by)?;
+        let reason = explain(*found.allocator(), &[], 1, part.by)?;
         found.push(reason)?;
     }
     Ok(())
@@ -96,7 +96,7 @@ fn put_ways(
 ) -> Result<(), AllocError>
     ensures value { OnOk result (explanations found.new.items ≡ explanations found.old.items ++ parts_to heir (map (counted up) (law_ways ways.now))) }
 {
-    let heap = found.allocator();
+    let heap = *found.allocator();
     for way in ways {
         if way.who == heir {
             let reason = explain(heap, way.line.as_slice(), up, way.by)?;

@@ -1,5 +1,5 @@
 -- The estate of somebody, by their name. Assumes nothing.
-use Rattle.std.proofs.Common.{◌≡◌, ℕ, List, [], ◌++◌, length, Ok, Err, vec_items, Option, sym, refl, ap, ◌∙◌, arith, Bor, MutBor}
+use Rattle.std.proofs.Common.{◌≡◌, ℕ, List, [], ◌++◌, length, Ok, Err, vec_items, Option, sym, refl, ap, ◌∙◌, arith, Bor, Bor}
 use Rattle.std.proofs.lemmas.List.{length-map}
 use Rattle.std.proofs.lemmas.Result.{IfOk-from_err}
 use Rattle.law.specs.Calls.{estate_of}
@@ -28,7 +28,7 @@ returns c =
     let n = c.args.name.now in
     let who = c.in-Some.who in
     let text = named_text h.names (answer_to family_limits h.family (estate_of who)) in
-    let found = c.in-Some.ensures.value ∙ ap (λ (rs : List (MutBor (List ℕ))). place_of n (bytes_of rs)) c.as_slice.ensures.value in
+    let found = c.in-Some.ensures.value ∙ ap (λ (rs : List (Bor (List ℕ))). place_of n (bytes_of rs)) c.as_slice.ensures.value in
     record {
       lines =
           ap Ok (c.in_ok-put_estate_of.ensures.lines ∙ ap (λ (t : List ℕ). t ++ text) c.new-text.ensures.bytes) ∙ ap (λ (o : Option ℕ). estate_in h o) found;

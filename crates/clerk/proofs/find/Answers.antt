@@ -1,5 +1,5 @@
 -- The number of whoever has a name. Assumes nothing.
-use Rattle.std.proofs.Common.{ℕ, true, false, List, arith, MutBor}
+use Rattle.std.proofs.Common.{ℕ, true, false, List, arith, Bor}
 use Rattle.std.proofs.lemmas.List.{length-map}
 use Rattle.text.specs.Households.{bytes_of}
 use Rattle.text.specs.Reading.{place_of}
@@ -15,7 +15,7 @@ loop-place-preserved c =
     let rs = c.args.names.now in
     let n = c.args.name.now in
     let i = c.loop-place.place in
-    place_more n (bytes_of rs) i (place_of n (bytes_of rs)) (omega (arith, length-map rs (λ (r : MutBor (List ℕ)). r.now))) (name_matched rs i _ n false (omega arith) c.if-eq.ensures) c.loop-place.invariant
+    place_more n (bytes_of rs) i (place_of n (bytes_of rs)) (omega (arith, length-map rs (λ (r : Bor (List ℕ)). r.now))) (name_matched rs i _ n false (omega arith) c.if-eq.ensures) c.loop-place.invariant
 
 pub returns-then-eq : goal.returns-then-eq
 returns-then-eq c =
@@ -23,7 +23,7 @@ returns-then-eq c =
     let n = c.args.name.now in
     let i = c.loop-place.place in
     record {
-      value = place_here n (bytes_of rs) i (place_of n (bytes_of rs)) (omega (arith, length-map rs (λ (r : MutBor (List ℕ)). r.now))) (name_matched rs i _ n true (omega arith) c.if-eq.ensures) c.loop-place.invariant;
+      value = place_here n (bytes_of rs) i (place_of n (bytes_of rs)) (omega (arith, length-map rs (λ (r : Bor (List ℕ)). r.now))) (name_matched rs i _ n true (omega arith) c.if-eq.ensures) c.loop-place.invariant;
       within = omega arith;
     }
 
@@ -31,4 +31,4 @@ pub returns : goal.returns
 returns c =
     let rs = c.args.names.now in
     let n = c.args.name.now in
-    record { value = place_all n (bytes_of rs) c.loop-place.place (place_of n (bytes_of rs)) (omega (arith, length-map rs (λ (r : MutBor (List ℕ)). r.now))) c.loop-place.invariant; within = tt }
+    record { value = place_all n (bytes_of rs) c.loop-place.place (place_of n (bytes_of rs)) (omega (arith, length-map rs (λ (r : Bor (List ℕ)). r.now))) c.loop-place.invariant; within = tt }

@@ -1,5 +1,5 @@
 -- What is printed of a spouse. Assumes nothing.
-use Rattle.std.proofs.Common.{◌≡◌, ℕ, List, ◌++◌, string_bytes, codes, Option, sym, refl, ap, ◌∙◌, MutBor}
+use Rattle.std.proofs.Common.{◌≡◌, ℕ, List, ◌++◌, string_bytes, codes, Option, sym, refl, ap, ◌∙◌, Bor}
 use Rattle.std.specs.Option.{option_map}
 use Rattle.lines.specs.Grammar.{spouse_text}
 use Rattle.lines.proofs.Appended.{appended_two}
@@ -11,5 +11,5 @@ returns-in_ok-push_str-in-Some c =
       lines =
           appended_two c.push_str-in-Some.result _ (string_bytes c.push_str.new.self) _ (codes ", spouse of ") c.in-Some.name.now _
           c.in_ok-push_str-in-Some.ensures.bytes c.push_str-in-Some.ensures.bytes
-          (sym (ap (λ (o : Option (MutBor (List ℕ))). spouse_text (option_map (λ x. x.now) o)) c.in-Some.is));
+          (sym (ap (λ (o : Option (Bor (List ℕ))). spouse_text (option_map (λ x. x.now) o)) c.in-Some.is));
     }

@@ -1,5 +1,5 @@
 -- The names of all lines. Assumes nothing.
-use Rattle.std.proofs.Common.{◌≡◌, ℕ, ◌+◌, ◌<◌, List, [], ◌∷◌, ◌++◌, map, length, get_or, take, vec_items, sym, refl, ap, ◌∙◌, arith, MutBor}
+use Rattle.std.proofs.Common.{◌≡◌, ℕ, ◌+◌, ◌<◌, List, [], ◌∷◌, ◌++◌, map, length, get_or, take, vec_items, sym, refl, ap, ◌∙◌, arith, Bor}
 use Rattle.std.proofs.lemmas.List.{map_push, take_more, take_all}
 use Rattle.lines.specs.declared.Entry.{Entry}
 use Rattle.text.specs.Households.{bytes_of}
@@ -7,7 +7,7 @@ use Rattle.text.specs.Reading.{names_of, said_in}
 use Rattle.text.proofs.Places.{length-names, name_of_entry}
 use Rattle.text.proofs.names_in.Goals as goal
 
-one_more : (es : List Entry) (i : ℕ) (d : Entry) (rs later : List (MutBor (List ℕ))) → i < length es → later ≡ rs ++ ((get_or es i d).name ∷ []) →
+one_more : (es : List Entry) (i : ℕ) (d : Entry) (rs later : List (Bor (List ℕ))) → i < length es → later ≡ rs ++ ((get_or es i d).name ∷ []) →
     bytes_of rs ≡ take i (names_of (said_in es)) → bytes_of later ≡ take (i + 1) (names_of (said_in es))
 one_more es i d rs later h q inv =
     ap bytes_of q
