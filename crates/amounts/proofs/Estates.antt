@@ -13,7 +13,7 @@ use Rattle.theory.proofs.Families.{lives_there}
 use Rattle.theory.proofs.Decedent.{dead_already, dead_ranked, marked_dead}
 use Rattle.theory.proofs.Orders.{relatives_by}
 use Rattle.theory.proofs.Parts.{divides_both, divides_once, pieces_append, pieces_repeated}
-use Rattle.amounts.specs.Passes.{is_in, all_listed, listed_in, listed, InDescentOrder, started}
+use Rattle.amounts.specs.Passes.{is_in, all_listed, listed_in, InDescentOrder, started}
 use Rattle.amounts.specs.Lines.{divided_among, couple_starts, kept_starts, starts_persons, starts_parts}
 use Rattle.amounts.specs.Statements.{Listing, Starts, NoAmounts}
 use Rattle.amounts.specs.Estates.{relatives_number, relatives_times, spouse_lead, estate_starts, estate_listing, estate_amounts, ByPasses, EstateByPasses}

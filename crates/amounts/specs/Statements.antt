@@ -6,7 +6,7 @@ use Rattle.law.specs.Calls.{common_multiple, divides_all, pieces, all_pieces}
 use Rattle.theory.specs.Families.{Ranked}
 use Rattle.theory.specs.Living.{alive}
 use Rattle.theory.specs.Decedent.{kept_relatives}
-use Rattle.amounts.specs.Passes.{is_in, listed_in, listed, InDescentOrder, filled_up, few, count_step, word_or_zero, multiple_step, handed_down, started, cleared, starts_count, starts_numbers}
+use Rattle.amounts.specs.Passes.{is_in, listed_in, InDescentOrder, filled_up, few, count_step, word_or_zero, multiple_step, handed_down, started, cleared, starts_count, starts_numbers}
 use Rattle.amounts.specs.Lines.{divided_among, part_count, line_multiple, kept_starts, starts_parts}
 
 -- A list of persons whose lines live: each is there once, and before the lines among which what comes to them is divided.

@@ -1,5 +1,5 @@
 -- Families, lines of descent, and who inherits which part of an estate. Assumes nothing: these are definitions.
-use Rattle.std.specs.Prelude.{ℕ, zero, suc, ◌+◌, ◌-◌, ◌*◌, Bool, false, cond, not, ◌&&◌, ◌||◌, List, [], ◌∷◌, ◌++◌, length, filter, ◌==◌, slice_index_or}
+use Rattle.std.specs.Prelude.{ℕ, zero, suc, ◌-◌, ◌*◌, Bool, false, cond, not, ◌&&◌, ◌||◌, List, [], ◌∷◌, ◌++◌, length, filter, ◌==◌, slice_index_or}
 use Rattle.std.specs.List.{flat_map}
 
 -- A person: mother and father, 0 where not known, else one more than that person's number; whether they live; and the spouse, written likewise.

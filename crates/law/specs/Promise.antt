@@ -1,5 +1,5 @@
 -- What is promised of a register, and what holds of every estate. Each is a statement: a type whose proof is owed wherever a contract names it. Assumes nothing.
-use Rattle.std.specs.Prelude.{◌≡◌, ℕ, suc, ◌-◌, ◌<◌, ◌≤◌, Bool, true, not, ◌&&◌, ◌||◌, ◌≢◌, ◌⊎◌, List, [], ◌∷◌, length, ◌==◌, nat_le}
+use Rattle.std.specs.Prelude.{◌≡◌, ℕ, suc, ◌<◌, ◌≤◌, Bool, true, not, ◌&&◌, ◌||◌, ◌≢◌, ◌⊎◌, List, [], ◌∷◌, length, ◌==◌, nat_le}
 use Rattle.law.specs.Family.{person, Family, is_child, line_lives, Part, order, has_living_spouse, estate}
 use Rattle.law.specs.Calls.{Call, born, dies, Share, Answer, Limits, refusal, after, divides_all, pieces, all_pieces, as_parts, right}
 

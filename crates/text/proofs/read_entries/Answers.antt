@@ -23,7 +23,7 @@ loop-rest-preserved c =
     let es = vec_items c.loop-rest.entries in
     let x : Next = record { line = said_by c.in-Ok.entry; rest = c.in-Ok.behind.now } in
     let bs = c.loop-rest.rest.now in
-    one_more es (vec_items c.push.new.self) bs (lines_in 65 c.args.input.now []) c.in-Ok.entry x c.in_ok-push.ensures.items (λ i. x.line) (omega arith)
+    one_more es (vec_items c.push.new.self) bs (lines_in 65 c.args.input.now []) c.in-Ok.entry x c.in_ok-push-in-Ok.ensures.items (λ i. x.line) (omega arith)
     (c.in-Ok.ensures.value ∙ ap (λ (ys : List Entry). next_line (said_in ys) bs) c.as_slice.ensures.value) c.loop-rest.invariant.0
 
 pub returns-in-Err : goal.returns-in-Err

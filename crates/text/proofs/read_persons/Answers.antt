@@ -36,7 +36,7 @@ pub loop-index-preserved : goal.loop-index-preserved
 loop-index-preserved c =
     let es = c.args.entries.now in
     one_more es c.loop-index.index _ (vec_items c.loop-index.persons) (persons_in (names_of (said_in es)) (said_in es) []) (vec_items c.push.new.self) c.in-Ok.person
-    c.in_ok-push.ensures.items (omega arith) c.loop-index.invariant.1 c.in-Ok.ensures.value c.loop-index.invariant.0
+    c.in_ok-push-in-Ok.ensures.items (omega arith) c.loop-index.invariant.1 c.in-Ok.ensures.value c.loop-index.invariant.0
 
 pub returns-in-Err : goal.returns-in-Err
 returns-in-Err c =
