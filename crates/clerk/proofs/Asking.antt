@@ -30,10 +30,5 @@ answers_by ws f m before c valid long e q =
     ap (λ (u : Memory). says u c) here ∙ said_at stage [] 64 f c valid.few (any_call c)
 
 -- what a comparison with a name says
-pub name_matched : (rs : List (Bor (List ℕ))) (i : ℕ) (d : Bor (List ℕ)) (n : List ℕ) (r : Bool) → i < length rs → Decides r ((get_or rs i d).now ≡ n) → bytes_eq (get_or (bytes_of rs) i []) n ≡ r
-name_matched rs i d n true h q = (bytes_eq-Decides (get_or (bytes_of rs) i []) n).1 (name_taken rs d i h ∙ q.0 refl)
-name_matched rs i d n false h q =
-    elim (cases_Bool (bytes_eq (get_or (bytes_of rs) i []) n)) [
-      | inl t ↦ absurd (both_ways false refl (q.1 (sym (name_taken rs d i h) ∙ (bytes_eq-Decides (get_or (bytes_of rs) i []) n).0 t)))
-      | inr t ↦ t
-    ]
+pub name_matched : (rs : List (Bor (List ℕ))) (i : ℕ) (d : Bor (List ℕ)) (n : List ℕ) (r : Bool) → i < length rs → r ≡ bytes_eq (get_or rs i d).now n → bytes_eq (get_or (bytes_of rs) i []) n ≡ r
+name_matched rs i d n r h q = ap (λ (x : List ℕ). bytes_eq x n) (name_taken rs d i h) ∙ sym q

@@ -51,10 +51,5 @@ name_of_entry es i d h =
     ∙ ap (λ l. l.name) (get_or-map (λ x. said_by x) es i d (said_by d) h)
 
 -- what a comparison with an entry's name says
-pub matched : (es : List Entry) (i : ℕ) (d : Entry) (n : List ℕ) (r : Bool) → i < length es → Decides r ((get_or es i d).name.now ≡ n) → bytes_eq (get_or (names_of (said_in es)) i []) n ≡ r
-matched es i d n true h q = (bytes_eq-Decides (get_or (names_of (said_in es)) i []) n).1 (name_of_entry es i d h ∙ q.0 refl)
-matched es i d n false h q =
-    elim (cases_Bool (bytes_eq (get_or (names_of (said_in es)) i []) n)) [
-      | inl t ↦ absurd (both_ways false refl (q.1 (sym (name_of_entry es i d h) ∙ (bytes_eq-Decides (get_or (names_of (said_in es)) i []) n).0 t)))
-      | inr t ↦ t
-    ]
+pub matched : (es : List Entry) (i : ℕ) (d : Entry) (n : List ℕ) (r : Bool) → i < length es → r ≡ bytes_eq (get_or es i d).name.now n → bytes_eq (get_or (names_of (said_in es)) i []) n ≡ r
+matched es i d n r h q = ap (λ (x : List ℕ). bytes_eq x n) (name_of_entry es i d h) ∙ sym q

@@ -1,7 +1,7 @@
 // The ways by which an estate comes to its heirs, of a family that is given as a row of persons: every part with the line of descent by which it came.
 #![tactic(auto)]
 
-ghost use Rattle.std.specs.Prelude.{◌≡◌, ℕ, suc, ◌+◌, ◌*◌, ◌<◌, ◌≤◌, Bool, true, false, ◌&&◌, ◌⊎◌, List, [], ◌∷◌, ◌++◌, map, length, IfOk, if◌then◌else◌, vec_len, filter, MatchOption, ◌==◌};
+ghost use Rattle.std.specs.Prelude.{◌≡◌, ℕ, suc, ◌+◌, ◌*◌, ◌<◌, ◌≤◌, Bool, true, false, ◌&&◌, ◌⊎◌, List, [], ◌∷◌, ◌++◌, map, length, IfOk, cond, vec_len, filter, MatchOption, ◌==◌};
 ghost use Rattle.std.specs.List.{range_with_len};
 ghost use Rattle.law.specs.Family.{person, is_child as law_is_child, children, some_of, line_lives};
 ghost use Rattle.people.specs.Persons.{law_person};
@@ -162,7 +162,7 @@ fn extended(heap: Global, line: &[usize], who: usize) -> Result<Vec<usize>, Allo
 
 // Puts a way behind the others; not where there are as many as may be.
 fn put_way(ways: &mut Vec<Way>, way: Way) -> Result<bool, AllocError>
-    ensures value { IfOk result (λ t. (if t then (ways.new.items ≡ ways.old.items ++ (way ∷ [])) else (4096 ≤ vec_len ways.old))) }
+    ensures value { IfOk result (λ t. cond t (ways.new.items ≡ ways.old.items ++ (way ∷ [])) (4096 ≤ vec_len ways.old)) }
 {
     if ways.len() >= MOST_WAYS {
         return Ok(false);

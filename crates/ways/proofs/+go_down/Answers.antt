@@ -11,7 +11,7 @@ use Rattle.ways.specs.Rows.{family_of, in_row, law_way, law_ways}
 use Rattle.ways.specs.Going.{ways_below, Enough, Beyond, Went, Marks}
 use Rattle.ways.proofs.Going.{way_standing, way_divided, below_more, stopped_at, no_steps, enough_below, line_large, cond_holds, cond_fails, went_on}
 use Rattle.ways.proofs.+go_down.Goals as goal
-use Rattle.ways.proofs.+go_down.Goals.{then-stands+in_ok-went, else-stands+in_ok-below, in-Some+in_ok-went-2, in-None}
+use Rattle.ways.proofs.+go_down.Goals.{then-stands+in_ok-went, else-stands+in_ok-below, in-Some+in_ok-went-in-Some, in-None}
 
 pub loop-index-init : goal.loop-index-init
 loop-index-init t c = λ right. sym (append-nil (law_ways (vec_items c.args.ways.now)))
@@ -41,12 +41,12 @@ loop-index-preserved t c = λ right.
           ∙ ap (λ r. mid ++ r) (sym (way_standing f d n (xs ++ (p ∷ [])) p b (sym c.stands.ensures.value ∙ w.if-stands.true)))
       | else-stands+in_ok-below w ↦
           elim w.match-each_of.branch [
-            | in-Some+in_ok-went-2 v ↦
+            | in-Some+in_ok-went-in-Some v ↦
                 let cs = vec_items w.in_ok-below.below in
                 let each = v.in-Some.each in
                 let found = v.in-Some.ensures.cases in
                 let long : w.len.result ≡ length cs = w.len.ensures ∙ w.in_ok-below.below.ok.0 in
-                let done = subst (λ z. Went f d (n - 1) v.as_slice.result.now v.as_slice-in-Some.result.now each mid (law_ways (vec_items v.go_down.new.ways)) z) (sym v.went-is ∙ sym w.went-is ∙ c.if-not-went.false) (v.in_ok-went-2.ensures.went right) in
+                let done = subst (λ z. Went f d (n - 1) v.as_slice.result.now v.as_slice-in-Some.result.now each mid (law_ways (vec_items v.go_down.new.ways)) z) (sym v.went-is ∙ sym w.went-is ∙ c.if-not-went.false) (v.in_ok-went-in-Some.ensures.went right) in
                 ap (λ u. law_ways (vec_items u)) (w.ways-is ∙ v.ways-is)
                 ∙ done
                 ∙ ap (λ ys. mid ++ ways_below (n - 1) f d ys v.as_slice-in-Some.result.now each) (v.as_slice.ensures.value ∙ line)
@@ -99,10 +99,10 @@ returns-then-not-went t c =
                 w.in_ok-below.ensures.value
                 ∙ kept_cong (in_row c.args.lives.now) (line_lives f d) (children f p) (all_any (λ q. in_row c.args.lives.now q ≡ line_lives f d q) right (children f p)) in
                 elim w.match-each_of.branch [
-                  | in-Some+in_ok-went-2 v ↦
+                  | in-Some+in_ok-went-in-Some v ↦
                       let each = v.in-Some.each in
                       let met = v.in-Some.ensures.cases in
-                      let done = subst (λ z. Went f d (n - 1) v.as_slice.result.now v.as_slice-in-Some.result.now each mid (law_ways (vec_items v.go_down.new.ways)) z) (sym v.went-is ∙ sym w.went-is ∙ c.if-not-went.true) (v.in_ok-went-2.ensures.went right) in
+                      let done = subst (λ z. Went f d (n - 1) v.as_slice.result.now v.as_slice-in-Some.result.now each mid (law_ways (vec_items v.go_down.new.ways)) z) (sym v.went-is ∙ sym w.went-is ∙ c.if-not-went.true) (v.in_ok-went-in-Some.ensures.went right) in
                       let same : ways_below (n - 1) f d v.as_slice.result.now v.as_slice-in-Some.result.now each ≡ row =
                       ap (λ ys. ways_below (n - 1) f d ys v.as_slice-in-Some.result.now each) (v.as_slice.ensures.value ∙ c.in_ok-line.ensures.value)
                       ∙ ap (λ zs. ways_below (n - 1) f d (xs ++ (p ∷ [])) zs each) v.as_slice-in-Some.ensures.value

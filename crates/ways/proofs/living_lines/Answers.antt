@@ -12,7 +12,7 @@ use Rattle.std.proofs.lemmas.Bool.Decides.{Decides-eqb}
 
 pub loop-step-init : goal.loop-step-init
 loop-step-init c =
-    c.in_ok-lives.ensures.items-if-clones-equal (λ y e. e)
+    c.in_ok-lives.ensures.items_if_clones_equal (λ y e. e)
     ∙ seen_none (family_of c.args.family.now) c.args.decedent (length c.args.family.now) (length-map c.args.family.now law_person)
 
 pub loop-step-preserved : goal.loop-step-preserved
@@ -34,7 +34,7 @@ returns c =
           elim c.loop-step-test.branch [
             | else-loop-step-test w ↦ c.loop-step.invariant ∙ seen_all f d k n (omega arith) c.loop-step.auto.step-end same ∙ long
             | then-loop-step-test+in_ok-next+then-eq w ↦
-                let eq = (slice_eq-Decides Decides-eqb _ _ _ w.eq.ensures).0 w.if-eq.true in
+                let eq = (slice_eq-Decides Decides-eqb w.as_slice-in-loop-step.result.now w.as_slice-in-loop-step-2.result.now _ w.eq.ensures).0 w.if-eq.true in
                 let next : vec_items w.in_ok-next.next ≡ seen f d (k + 1) =
                 w.in_ok-next.ensures.value ∙ seen_more f d k n w.as_slice.result.now (w.as_slice.ensures.value ∙ c.loop-step.invariant) same in
                 c.loop-step.invariant
