@@ -1,6 +1,6 @@
 -- Only persons of the lines that an estate begins with are listed, and whoever is listed and lives has a part. Assumes nothing.
 use Rattle.std.proofs.Common.{◌≡◌, ℕ, ◌*◌, ◌%◌, ◌<◌, true, false, eqb, List, [], ◌∷◌, length, sym, refl, subst, ⊎_elim, arith}
-use Rattle.std.specs.List.{ContainsAt as Has, flat_map, AllByRecursion as All}
+use Rattle.std.specs.List.{ContainsAt as Has, flat_map, AllByRecursion}
 use Rattle.std.proofs.ByRecursion.{All-weaker, all-has, has_get_or, has_append_left, has_append_right}
 use Rattle.std.proofs.lemmas.Bool.{and_parts, eq-eqb, cases_Bool}
 use Rattle.law.specs.Family.{person, Family, is_child, Part, line_parts}
@@ -39,7 +39,7 @@ has_pieces n ps r l d h = all-has (λ (q : Part). 0 < pieces n ps q.who) ps r (e
         let k = quotient_positive n q.by l (test_divides q.by n t.0) in
         (rw (eq-eqb q.who q.who refl) (omega arith), t.1))
 
-    each : (ps : List Part) → divides_all n ps ≡ true → All (λ (q : Part). 0 < pieces n ps q.who) ps
+    each : (ps : List Part) → divides_all n ps ≡ true → AllByRecursion (λ (q : Part). 0 < pieces n ps q.who) ps
     each [] e = tt
     each (q ∷ qs) e =
         let r = own q qs e in
@@ -47,18 +47,18 @@ has_pieces n ps r l d h = all-has (λ (q : Part). 0 < pieces n ps q.who) ps r (e
 
 module _ {g : Family} {rk : ℕ → ℕ} (s : Ranked g rk) where
   -- what holds of lines that live, and then of the lines below, holds of all who are listed
-  pub listed_each : (P : ℕ → Type 0) (ps : List ℕ) → ((p : ℕ) → P p → alive g p ≡ true) → ((p : ℕ) → P p → All P (divided_among g p)) → All P ps
-      → All P (listed (length g) (divided_among g) ps)
+  pub listed_each : (P : ℕ → Type 0) (ps : List ℕ) → ((p : ℕ) → P p → alive g p ≡ true) → ((p : ℕ) → P p → AllByRecursion P (divided_among g p)) → AllByRecursion P ps
+      → AllByRecursion P (listed (length g) (divided_among g) ps)
   listed_each P ps lives down a =
       (lists_all (divided_among g) (length g) rk P both within (λ p o. listed_in (length g) (divided_among g) p o) 0 ps
-      (All-weaker P (λ p. (out : List ℕ) → InDescentOrder (divided_among g) out → All P out → Grows p out)
+      (All-weaker P (λ p. (out : List ℕ) → InDescentOrder (divided_among g) out → AllByRecursion P out → Grows p out)
       (λ p v out t b.
       let x = lists_in (divided_among g) (length g) rk P both within (length g) p v (omega arith) out t b in
       (grown_less (divided_among g) (length g) rk P both within 0 (rk p) out (listed_in (length g) (divided_among g) p out) (omega arith) x.0, x.1))
       ps a)
       [] (unfold InDescentOrder in tt) tt).0.each
     where
-      both : (p : ℕ) → P p → All (λ c. P c × (rk p < rk c)) (divided_among g p)
+      both : (p : ℕ) → P p → AllByRecursion (λ c. P c × (rk p < rk c)) (divided_among g p)
       both p v =
           all_both P (λ c. (alive g c ≡ true) × (rk p < rk c)) (λ c. P c × (rk p < rk c)) (λ c x y. (x, y.1)) (divided_among g p) (down p v) (divided_among_lives s p)
 
@@ -71,7 +71,7 @@ module _ {g : Family} {rk : ℕ → ℕ} (s : Ranked g rk) where
           × (is_in p (listed_in (length g) (divided_among g) p out) ≡ true)
 
   -- only lines that are begun with
-  pub listed_concerned : (ps : List ℕ) → All (λ p. alive g p ≡ true) ps → All (λ q. OfSomeLine g ps q) (listed (length g) (divided_among g) ps)
+  pub listed_concerned : (ps : List ℕ) → AllByRecursion (λ p. alive g p ≡ true) ps → AllByRecursion (λ q. OfSomeLine g ps q) (listed (length g) (divided_among g) ps)
   listed_concerned ps a =
       All-weaker (λ q. (alive g q ≡ true) × OfSomeLine g ps q) (λ q. OfSomeLine g ps q) (λ q v. v.1) (listed (length g) (divided_among g) ps)
       (listed_each (λ q. (alive g q ≡ true) × OfSomeLine g ps q) ps (λ p v. v.0)
@@ -85,16 +85,16 @@ module _ {g : Family} {rk : ℕ → ℕ} (s : Ranked g rk) where
   abbrev Within : List Part → ℕ → Type 0
   Within ss q = (alive g q ≡ true) × ((b : ℕ) × ((r : Part) → Has (line_parts g (length g) q b) r → Has (starts_parts g ss) r))
 
-  within_below : (ss : List Part) (p : ℕ) → Within ss p → All (Within ss) (divided_among g p)
+  within_below : (ss : List Part) (p : ℕ) → Within ss p → AllByRecursion (Within ss) (divided_among g p)
   within_below ss p v =
-      ⊎_elim (λ (e : (person g p).lives ≡ true). subst (All (Within ss)) (sym (among_lives s p e)) tt)
+      ⊎_elim (λ (e : (person g p).lives ≡ true). subst (AllByRecursion (Within ss)) (sym (among_lives s p e)) tt)
       (λ (e : (person g p).lives ≡ false).
       let ws = lines_below g (length g) p in
       let k = v.1.0 * length ws in
-      subst (All (Within ss)) (sym (among_dead s p e))
+      subst (AllByRecursion (Within ss)) (sym (among_dead s p e))
       (in_all (Within ss) ws
       (λ c i. (
-        (all_in (λ x. (alive g x ≡ true) × (rk p < rk x)) ws (subst (All (λ x. (alive g x ≡ true) × (rk p < rk x))) (among_dead s p e) (divided_among_lives s p)) c i).0,
+        (all_in (λ x. (alive g x ≡ true) × (rk p < rk x)) ws (subst (AllByRecursion (λ x. (alive g x ≡ true) × (rk p < rk x))) (among_dead s p e) (divided_among_lives s p)) c i).0,
         (
           k,
           λ r h.
@@ -103,7 +103,7 @@ module _ {g : Family} {rk : ℕ → ℕ} (s : Ranked g rk) where
       ))))
       (cases_Bool (person g p).lives)
 
-  starts_within : (ss : List Part) → All (λ (p : Part). alive g p.who ≡ true) ss → All (Within ss) (starts_persons ss)
+  starts_within : (ss : List Part) → AllByRecursion (λ (p : Part). alive g p.who ≡ true) ss → AllByRecursion (Within ss) (starts_persons ss)
   starts_within [] a = tt
   starts_within (p ∷ ss) a = (
     (a.0, (p.by, λ r h. has_append_left (line_parts g (length g) p.who p.by) (starts_parts g ss) r h)),
@@ -112,7 +112,7 @@ module _ {g : Family} {rk : ℕ → ℕ} (s : Ranked g rk) where
   )
 
   -- whoever is listed and lives has pieces
-  pub listed_inherits : (ss : List Part) (n w : ℕ) → All (λ (p : Part). alive g p.who ≡ true) ss → 0 < n → divides_all n (starts_parts g ss) ≡ true
+  pub listed_inherits : (ss : List Part) (n w : ℕ) → AllByRecursion (λ (p : Part). alive g p.who ≡ true) ss → 0 < n → divides_all n (starts_parts g ss) ≡ true
       → is_in w (listed (length g) (divided_among g) (starts_persons ss)) ≡ true → (person g w).lives ≡ true → 0 < pieces n (starts_parts g ss) w
   listed_inherits ss n w a l d i v =
       let t = all_in (Within ss) (listed (length g) (divided_among g) (starts_persons ss))

@@ -1,7 +1,7 @@
 -- Downward along a list: who has nothing left, who is not reached, and that all together never have more. Assumes nothing.
 use Rattle.std.proofs.Common.{◌≡◌, ℕ, suc, ◌+◌, ◌*◌, ◌/◌, ◌<◌, ◌≤◌, true, false, ◌≢◌, List, [], ◌∷◌, length, get_or, set, sum, sym, refl, ap, ◌∙◌, subst, ⊎_elim, mul-le-mul_right, arith}
 use native.Mathlib.Nat.{mul-div-le}
-use Rattle.std.specs.List.{AllByRecursion as All}
+use Rattle.std.specs.List.{AllByRecursion}
 use Rattle.std.proofs.lemmas.List.{length-set, get_or-set_other, get_or_past}
 use Rattle.std.proofs.ByRecursion.{All-weaker}
 use Rattle.std.proofs.lemmas.List.Sums.{sum_by-set, get_or-le-sum_by}
@@ -42,24 +42,24 @@ handed_many [] q row l = absurd (omega arith)
 handed_many (c ∷ cs) q row l = refl
 
 -- who gets nothing keeps what they have
-pub added_other : (cs : List ℕ) (more : ℕ) (row : List ℕ) (w : ℕ) → All (λ c. w ≢ c) cs → get_or (added_each cs more row) w 0 ≡ get_or row w 0
+pub added_other : (cs : List ℕ) (more : ℕ) (row : List ℕ) (w : ℕ) → AllByRecursion (λ c. w ≢ c) cs → get_or (added_each cs more row) w 0 ≡ get_or row w 0
 unfolding added_each
 added_other [] more row w h = refl
 added_other (c ∷ cs) more row w h =
     added_other cs more (set row c (get_or row c 0 + more)) w h.1 ∙ get_or-set_other row c w (get_or row c 0 + more) 0 h.0
 
-pub handed_on_other : (cs : List ℕ) (q : ℕ) (row : List ℕ) (w : ℕ) → w ≢ q → All (λ c. w ≢ c) cs → get_or (handed_on cs q row) w 0 ≡ get_or row w 0
+pub handed_on_other : (cs : List ℕ) (q : ℕ) (row : List ℕ) (w : ℕ) → w ≢ q → AllByRecursion (λ c. w ≢ c) cs → get_or (handed_on cs q row) w 0 ≡ get_or row w 0
 unfolding handed_on
 handed_on_other [] q row w n h = refl
 handed_on_other (c ∷ cs) q row w n h =
     added_other (c ∷ cs) (get_or row q 0 / suc (length cs)) (set row q 0) w h ∙ get_or-set_other row q w 0 0 n
 
-handed_on_self : (cs : List ℕ) (q : ℕ) (row : List ℕ) → 0 < length cs → All (λ c. q ≢ c) cs → get_or (handed_on cs q row) q 0 ≡ 0
+handed_on_self : (cs : List ℕ) (q : ℕ) (row : List ℕ) → 0 < length cs → AllByRecursion (λ c. q ≢ c) cs → get_or (handed_on cs q row) q 0 ≡ 0
 handed_on_self cs q row l h =
     ap (λ (r : List ℕ). get_or r q 0) (handed_many cs q row l) ∙ (added_other cs (get_or row q 0 / length cs) (set row q 0) q h ∙ set_own row q)
 
 -- those below are in the rest of a list, and so are not somebody who isn't
-not_below : (w : ℕ) (qs cs : List ℕ) → is_in w qs ≡ false → All (λ c. is_in c qs ≡ true) cs → All (λ c. w ≢ c) cs
+not_below : (w : ℕ) (qs cs : List ℕ) → is_in w qs ≡ false → AllByRecursion (λ c. is_in c qs ≡ true) cs → AllByRecursion (λ c. w ≢ c) cs
 not_below w qs cs h a = All-weaker (λ c. is_in c qs ≡ true) (λ c. w ≢ c) (λ c k e. in_not c w qs k h (sym e)) cs a
 
 module _ (below : ℕ → List ℕ) where
@@ -84,7 +84,7 @@ module _ (below : ℕ → List ℕ) where
       (λ (k : is_in w qs ≡ true). handed_down_self qs (handed_on (below q) q row) w t.2 k l) (in_cases w q qs h)
 
 -- all together
-pub sum_added : (cs : List ℕ) (more : ℕ) (row : List ℕ) → All (λ c. c < length row) cs → sum (added_each cs more row) ≡ length cs * more + sum row
+pub sum_added : (cs : List ℕ) (more : ℕ) (row : List ℕ) → AllByRecursion (λ c. c < length row) cs → sum (added_each cs more row) ≡ length cs * more + sum row
 unfolding added_each
 sum_added [] more row a = omega arith
 sum_added (c ∷ cs) more row a =
@@ -95,7 +95,7 @@ sum_added (c ∷ cs) more row a =
     omega arith
 
 -- once q's place is 0, no more is handed on to any of those below than q had
-pub handed_on_most : (q : ℕ) (row cs : List ℕ) (k : ℕ) → q < length row → All (λ c. c < length row) cs → length cs ≤ k → sum (added_each cs (get_or row q 0 / k) (set row q 0)) ≤ sum row
+pub handed_on_most : (q : ℕ) (row cs : List ℕ) (k : ℕ) → q < length row → AllByRecursion (λ c. c < length row) cs → length cs ≤ k → sum (added_each cs (get_or row q 0 / k) (set row q 0)) ≤ sum row
 handed_on_most q row cs k l a m =
     let r : List ℕ = set row q 0 in
     let e : sum (added_each cs (get_or row q 0 / k) r) ≡ length cs * (get_or row q 0 / k) + sum r =
@@ -108,12 +108,12 @@ handed_on_most q row cs k l a m =
     fewer : (a b x : ℕ) → a ≤ b → a * x ≤ b * x
     fewer a b x l = mul-le-mul_right x l
 
-pub sum_handed_on : (cs : List ℕ) (q : ℕ) (row : List ℕ) → q < length row → All (λ c. c < length row) cs → sum (handed_on cs q row) ≤ sum row
+pub sum_handed_on : (cs : List ℕ) (q : ℕ) (row : List ℕ) → q < length row → AllByRecursion (λ c. c < length row) cs → sum (handed_on cs q row) ≤ sum row
 unfolding handed_on
 sum_handed_on [] q row l a = omega arith
 sum_handed_on (c ∷ cs) q row l a = handed_on_most q row (c ∷ cs) (suc (length cs)) l a (omega arith)
 
-pub sum_handed_down : (below : ℕ → List ℕ) (os row : List ℕ) → All (λ q. (q < length row) × All (λ c. c < length row) (below q)) os → sum (handed_down below os row) ≤ sum row
+pub sum_handed_down : (below : ℕ → List ℕ) (os row : List ℕ) → AllByRecursion (λ q. (q < length row) × AllByRecursion (λ c. c < length row) (below q)) os → sum (handed_down below os row) ≤ sum row
 unfolding handed_down
 sum_handed_down below [] row a = omega arith
 sum_handed_down below (q ∷ qs) row a =
@@ -122,7 +122,7 @@ sum_handed_down below (q ∷ qs) row a =
     let h : length r ≡ length row = length-handed_on (below q) q row in
     let k =
     sum_handed_down below qs r
-    (All-weaker (λ x. (x < length row) × All (λ c. c < length row) (below x)) (λ x. (x < length r) × All (λ c. c < length r) (below x))
+    (All-weaker (λ x. (x < length row) × AllByRecursion (λ c. c < length row) (below x)) (λ x. (x < length r) × AllByRecursion (λ c. c < length r) (below x))
     (λ x v. (let z = v.0 in omega arith, All-weaker (λ c. c < length row) (λ c. c < length r) (λ c z. omega arith) (below x) v.1)) qs a.1) in
     omega arith
 
@@ -136,7 +136,7 @@ one_most row w =
     ⊎_elim (λ (l : w < length row). get_or-le-sum_by (λ x. x) row w 0 l) (λ (l : length row ≤ w). let e = get_or_past row w 0 l in omega arith) (cases_lt w (length row))
 
 -- what lines begin with together
-pub sum_started : (times n : ℕ) (ss : List Part) (row : List ℕ) → All (λ (s : Part). s.who < length row) ss → sum (started times n ss row) ≡ times * all_pieces n ss + sum row
+pub sum_started : (times n : ℕ) (ss : List Part) (row : List ℕ) → AllByRecursion (λ (s : Part). s.who < length row) ss → sum (started times n ss row) ≡ times * all_pieces n ss + sum row
 unfolding started all_pieces
 sum_started times n [] row a = omega arith
 sum_started times n (s ∷ ss) row a =
@@ -149,7 +149,7 @@ sum_started times n (s ∷ ss) row a =
     omega arith
 
 -- who is none of them keeps what they have
-pub started_other : (times n : ℕ) (ss : List Part) (row : List ℕ) (w : ℕ) → All (λ (s : Part). w ≢ s.who) ss → get_or (started times n ss row) w 0 ≡ get_or row w 0
+pub started_other : (times n : ℕ) (ss : List Part) (row : List ℕ) (w : ℕ) → AllByRecursion (λ (s : Part). w ≢ s.who) ss → get_or (started times n ss row) w 0 ≡ get_or row w 0
 unfolding started
 started_other times n [] row w h = refl
 started_other times n (s ∷ ss) row w h =

@@ -1,6 +1,6 @@
 -- An estate by passes is the estate. Assumes nothing.
 use Rattle.std.proofs.Common.{◌≡◌, ℕ, zero, suc, ◌+◌, ◌-◌, ◌*◌, ◌<◌, ◌≤◌, Bool, true, false, cond, not, eqb, leb, List, [], ◌∷◌, ◌++◌, map, length, get_or, sym, refl, ap, ◌∙◌, subst, div-one, arith}
-use Rattle.std.specs.List.{range_with_len, flat_map, AllByRecursion as All}
+use Rattle.std.specs.List.{range_with_len, flat_map, AllByRecursion}
 use Rattle.std.proofs.lemmas.List.{append-nil}
 use Rattle.std.proofs.ByRecursion.{All-weaker, All-map}
 use Rattle.std.proofs.lemmas.Bool.{eqb-true, and_parts, cond_both}
@@ -54,9 +54,9 @@ estate_whole g d =
     by false x y r e = unfold repeated in (append-nil (r 1))
 
 -- the spouse is there
-spouse_there : (g : Family) (d : ℕ) → All (λ (p : Part). p.who < length g) (spouse_lead g d)
+spouse_there : (g : Family) (d : ℕ) → AllByRecursion (λ (p : Part). p.who < length g) (spouse_lead g d)
 spouse_there g d =
-    cond_both (has_living_spouse g d) (spouse_parts g d (relatives_number g d)) [] (All (λ (p : Part). p.who < length g))
+    cond_both (has_living_spouse g d) (spouse_parts g d (relatives_number g d)) [] (AllByRecursion (λ (p : Part). p.who < length g))
     (λ h. (lives_there g ((person g d).spouse - 1) (and_parts (not (eqb (person g d).spouse 0)) (person g ((person g d).spouse - 1)).lives h).1, tt)) (λ _. tt)
 
 times_some : (g : Family) (d : ℕ) → 0 < relatives_times g d
@@ -103,9 +103,9 @@ begin_most g d n =
 
 module _ {g : Family} {rk : ℕ → ℕ} (s : Ranked g rk) where
   -- several lines listed
-  pub lines_listed : (ps out : List ℕ) → All (λ p. alive g p ≡ true) ps → Listing g out
+  pub lines_listed : (ps out : List ℕ) → AllByRecursion (λ p. alive g p ≡ true) ps → Listing g out
       → Listing g (all_listed (λ p o. listed_in (length g) (divided_among g) p o) ps out)
-      × All (λ p. is_in p (all_listed (λ q o. listed_in (length g) (divided_among g) q o) ps out) ≡ true) ps
+      × AllByRecursion (λ p. is_in p (all_listed (λ q o. listed_in (length g) (divided_among g) q o) ps out) ≡ true) ps
       × ((q : ℕ) → is_in q out ≡ true → is_in q (all_listed (λ p o. listed_in (length g) (divided_among g) p o) ps out) ≡ true)
   unfolding all_listed
   lines_listed [] out a h = (h, tt, λ q k. k)
@@ -117,20 +117,20 @@ module _ {g : Family} {rk : ℕ → ℕ} (s : Ranked g rk) where
   none_listed : Listing g []
   none_listed = unfold InDescentOrder in (listing s [] tt tt)
 
-  in_persons : (os : List ℕ) (ss : List Part) → All (λ p. is_in p os ≡ true) (starts_persons ss) → All (λ (p : Part). is_in p.who os ≡ true) ss
+  in_persons : (os : List ℕ) (ss : List Part) → AllByRecursion (λ p. is_in p os ≡ true) (starts_persons ss) → AllByRecursion (λ (p : Part). is_in p.who os ≡ true) ss
   in_persons os [] a = tt
   in_persons os (p ∷ ss) a = (a.0, in_persons os ss a.1)
 
   module _ (d : ℕ) where
-    fits : All (λ (p : Part). (alive g p.who ≡ true) × (p.who < length g) × (0 < p.by) × (p.by ≤ 4 * relatives_number g d)) (estate_starts g d)
+    fits : AllByRecursion (λ (p : Part). (alive g p.who ≡ true) × (p.who < length g) × (0 < p.by) × (p.by ≤ 4 * relatives_number g d)) (estate_starts g d)
     fits = kept_starts_fit s d (relatives_number g d) (number_some g d)
 
-    living : All (λ (p : Part). alive g p.who ≡ true) (estate_starts g d)
+    living : AllByRecursion (λ (p : Part). alive g p.who ≡ true) (estate_starts g d)
     living =
         All-weaker (λ (p : Part). (alive g p.who ≡ true) × (p.who < length g) × (0 < p.by) × (p.by ≤ 4 * relatives_number g d)) (λ (p : Part). alive g p.who ≡ true) (λ p v. v.0)
         (estate_starts g d) fits
 
-    persons_listed : Listing g (estate_listing g d) × All (λ p. is_in p (estate_listing g d) ≡ true) (starts_persons (estate_starts g d))
+    persons_listed : Listing g (estate_listing g d) × AllByRecursion (λ p. is_in p (estate_listing g d) ≡ true) (starts_persons (estate_starts g d))
     persons_listed =
         let r = lines_listed (starts_persons (estate_starts g d)) [] (All-map (λ p. alive g p ≡ true) (λ (p : Part). p.who) (estate_starts g d) living) none_listed in
         (r.0, r.1)

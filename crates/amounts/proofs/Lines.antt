@@ -1,6 +1,6 @@
 -- A line's number of parts and its least multiple, from those of the lines below; and the same where both are cut, as the passes work them out. Assumes nothing.
 use Rattle.std.proofs.Common.{◌≡◌, ℕ, ◌+◌, ◌*◌, ◌<◌, ◌≤◌, true, false, leb, List, [], ◌∷◌, map, length, get_or, sum_by, sym, refl, ap, ◌∙◌, subst, ap₂, ⊎_elim, arith}
-use Rattle.std.specs.List.{AllByRecursion as All}
+use Rattle.std.specs.List.{AllByRecursion}
 use Rattle.std.proofs.lemmas.List.{length-map}
 use Rattle.std.proofs.ByRecursion.{All-weaker, All-map}
 use Rattle.std.proofs.lemmas.List.Sums.{sum_by-cons}
@@ -50,7 +50,7 @@ few_sum g (x ∷ xs) =
     ap few (sum_by-cons (λ y. few (g y)) x xs) ∙ (few_plus (g x) (sum_by (λ y. few (g y)) xs) (sum_by g xs) (few_sum g xs) ∙ ap few (sym (sum_by-cons g x xs)))
 
 -- the least common multiple of positive numbers, cut
-pub common_multiple_cut_off : (ps : List Part) → All Positive ps → common_multiple ps 1 ≡ word_or_zero (parts_multiple ps)
+pub common_multiple_cut_off : (ps : List Part) → AllByRecursion Positive ps → common_multiple ps 1 ≡ word_or_zero (parts_multiple ps)
 common_multiple_cut_off ps a = common_multiple_is ps (parts_multiple ps) (multiple_positive ps a) (multiple_divides ps) (λ m h. multiple_least m ps h)
 
 -- a step upward from somebody with lines below
@@ -64,7 +64,7 @@ unfolding multiple_step
 multiple_many [] row l = absurd (omega arith)
 multiple_many (c ∷ cs) row l = refl
 
-numbered_by : (row : List ℕ) (value : ℕ → ℕ) (cs : List ℕ) → All (λ c. get_or row c 0 ≡ value c) cs → numbered row cs ≡ map (λ c. record { who = c; by = value c }) cs
+numbered_by : (row : List ℕ) (value : ℕ → ℕ) (cs : List ℕ) → AllByRecursion (λ c. get_or row c 0 ≡ value c) cs → numbered row cs ≡ map (λ c. record { who = c; by = value c }) cs
 numbered_by row value [] a = refl
 numbered_by row value (c ∷ cs) a = ap₂ (λ (x : ℕ) (ps : List Part). record { who = c; by = x } ∷ ps) a.0 (numbered_by row value cs a.1)
 
@@ -95,7 +95,7 @@ module _ {g : Family} {rk : ℕ → ℕ} (s : Ranked g rk) where
       ∙ sumBy_cong (λ c. length (line_parts g (length g) c (1 * length ws))) (λ c. part_count g c) ws
       (all_any (λ c. length (line_parts g (length g) c (1 * length ws)) ≡ part_count g c) (λ c. line_count g (length g) c (1 * length ws)) ws))
 
-  pub count_right : (p : ℕ) (row : List ℕ) → alive g p ≡ true → All (λ c. get_or row c 0 ≡ few (part_count g c)) (divided_among g p)
+  pub count_right : (p : ℕ) (row : List ℕ) → alive g p ≡ true → AllByRecursion (λ c. get_or row c 0 ≡ few (part_count g c)) (divided_among g p)
       → count_step (divided_among g p) row ≡ few (part_count g p)
   unfolding count_step
   count_right p row a h =
@@ -104,7 +104,7 @@ module _ {g : Family} {rk : ℕ → ℕ} (s : Ranked g rk) where
       let ws = lines_below g (length g) p in
       ap (λ (cs : List ℕ). count_step cs row) (among_dead p v)
       ∙ (count_many ws row (some_below p a v)
-      ∙ (ap few (sumBy_cong (λ c. get_or row c 0) (λ c. few (part_count g c)) ws (subst (All (λ c. get_or row c 0 ≡ few (part_count g c))) (among_dead p v) h))
+      ∙ (ap few (sumBy_cong (λ c. get_or row c 0) (λ c. few (part_count g c)) ws (subst (AllByRecursion (λ c. get_or row c 0 ≡ few (part_count g c))) (among_dead p v) h))
       ∙ (few_sum (λ c. part_count g c) ws ∙ ap few (sym (count_dead p v))))))
       (cases_Bool (person g p).lives)
 
@@ -123,7 +123,7 @@ module _ {g : Family} {rk : ℕ → ℕ} (s : Ranked g rk) where
   abbrev multiples : List ℕ → List Part
   multiples ps = map (λ p. record { who = p; by = line_multiple g p }) ps
 
-  multiples_positive : (ps : List ℕ) → All Positive (multiples ps)
+  multiples_positive : (ps : List ℕ) → AllByRecursion Positive (multiples ps)
   multiples_positive ps = All-map Positive (λ p. record { who = p; by = line_multiple g p }) ps (all_any (λ p. 0 < line_multiple g p) line_multiple_positive ps)
 
   pub multiple_dead : (p : ℕ) → alive g p ≡ true → (person g p).lives ≡ false
@@ -140,12 +140,12 @@ module _ {g : Family} {rk : ℕ → ℕ} (s : Ranked g rk) where
       one : (k : ℕ) → 1 * k ≡ k
       one k = omega arith
 
-      each : (k : ℕ) (ws : List ℕ) → All (λ c. alive g c ≡ true) ws
+      each : (k : ℕ) (ws : List ℕ) → AllByRecursion (λ c. alive g c ≡ true) ws
           → map (λ c. record { who = c; by = parts_multiple (line_parts g (length g) c k) }) ws ≡ map (scaled k) (multiples ws)
       each k [] h = refl
       each k (w ∷ ws) h = ap₂ (λ (x : ℕ) (ps : List Part). record { who = w; by = x } ∷ ps) (multiple_by w k h.0) (each k ws h.1)
 
-  pub multiple_right : (p : ℕ) (row : List ℕ) → alive g p ≡ true → All (λ c. get_or row c 0 ≡ word_or_zero (line_multiple g c)) (divided_among g p)
+  pub multiple_right : (p : ℕ) (row : List ℕ) → alive g p ≡ true → AllByRecursion (λ c. get_or row c 0 ≡ word_or_zero (line_multiple g c)) (divided_among g p)
       → multiple_step (divided_among g p) row ≡ word_or_zero (line_multiple g p)
   unfolding multiple_step
   multiple_right p row a h =
@@ -154,7 +154,7 @@ module _ {g : Family} {rk : ℕ → ℕ} (s : Ranked g rk) where
       let ws = lines_below g (length g) p in
       let e : common_multiple (numbered row ws) 1 ≡ word_or_zero (parts_multiple (multiples ws)) =
       ap (λ (ps : List Part). common_multiple ps 1)
-      (numbered_by row (λ c. word_or_zero (line_multiple g c)) ws (subst (All (λ c. get_or row c 0 ≡ word_or_zero (line_multiple g c))) (among_dead p v) h)
+      (numbered_by row (λ c. word_or_zero (line_multiple g c)) ws (subst (AllByRecursion (λ c. get_or row c 0 ≡ word_or_zero (line_multiple g c))) (among_dead p v) h)
       ∙ sym (map-map cut_part (λ c. record { who = c; by = line_multiple g c }) ws))
       ∙ (common_multiple_words (multiples ws) 1 (multiples_positive ws) ∙ common_multiple_cut_off (multiples ws) (multiples_positive ws)) in
       ap (λ (cs : List ℕ). multiple_step cs row) (among_dead p v)
@@ -164,21 +164,21 @@ module _ {g : Family} {rk : ℕ → ℕ} (s : Ranked g rk) where
 
   -- upward along a listing
   module _ (os row : List ℕ) (h : Listing g os) (l : length g ≤ length row) where
-    within_row : All (λ q. q < length row) os
+    within_row : AllByRecursion (λ q. q < length row) os
     within_row = All-weaker (λ q. q < length g) (λ q. q < length row) (λ q k. omega arith) os h.there
 
     pub counts_filled : (w : ℕ) → is_in w os ≡ true → get_or (filled_up count_step (divided_among g) os row) w 0 ≡ few (part_count g w)
     counts_filled =
         filled_right count_step (divided_among g) (λ q. few (part_count g q)) os row h.order within_row
         (All-weaker (λ q. alive g q ≡ true)
-        (λ q. (r : List ℕ) → All (λ c. get_or r c 0 ≡ few (part_count g c)) (divided_among g q) → count_step (divided_among g q) r ≡ few (part_count g q))
+        (λ q. (r : List ℕ) → AllByRecursion (λ c. get_or r c 0 ≡ few (part_count g c)) (divided_among g q) → count_step (divided_among g q) r ≡ few (part_count g q))
         (λ q a r k. count_right q r a k) os h.living)
 
     pub multiples_filled : (w : ℕ) → is_in w os ≡ true → get_or (filled_up multiple_step (divided_among g) os row) w 0 ≡ word_or_zero (line_multiple g w)
     multiples_filled =
         filled_right multiple_step (divided_among g) (λ q. word_or_zero (line_multiple g q)) os row h.order within_row
         (All-weaker (λ q. alive g q ≡ true)
-        (λ q. (r : List ℕ) → All (λ c. get_or r c 0 ≡ word_or_zero (line_multiple g c)) (divided_among g q) → multiple_step (divided_among g q) r ≡ word_or_zero (line_multiple g q))
+        (λ q. (r : List ℕ) → AllByRecursion (λ c. get_or r c 0 ≡ word_or_zero (line_multiple g c)) (divided_among g q) → multiple_step (divided_among g q) r ≡ word_or_zero (line_multiple g q))
         (λ q a r k. multiple_right q r a k) os h.living)
 
 pub counts_right : CountsRight

@@ -1,6 +1,6 @@
 -- Going down from somebody lists them and all below, each once, and before those below. Assumes nothing.
 use Rattle.std.proofs.Common.{◌≡◌, ℕ, zero, suc, ◌+◌, ◌<◌, ◌≤◌, Bool, true, false, ◌⊎◌, List, [], ◌∷◌, length, refl, ap, inl, inr, ⊎_elim, arith}
-use Rattle.std.specs.List.{AllByRecursion as All}
+use Rattle.std.specs.List.{AllByRecursion}
 use Rattle.std.proofs.ByRecursion.{All-weaker}
 use Rattle.std.proofs.lemmas.Bool.{cases_lt, both_ways, cond_both}
 use Rattle.law.specs.Family.{person, Family, is_child}
@@ -15,15 +15,15 @@ use Rattle.amounts.specs.Statements.{Listing, ListingGrows}
 use Rattle.amounts.proofs.Members.{in_here, in_later, in_cases, order_once, once_most}
 
 -- Persons of whom P holds, and then of all below them, where numbers below n grow.
-module _ (below : ℕ → List ℕ) (n : ℕ) (rk : ℕ → ℕ) (P : ℕ → Type 0) (down : (p : ℕ) → P p → All (λ c. P c × (rk p < rk c)) (below p)) (within : (p : ℕ) → P p → rk p < n) where
+module _ (below : ℕ → List ℕ) (n : ℕ) (rk : ℕ → ℕ) (P : ℕ → Type 0) (down : (p : ℕ) → P p → AllByRecursion (λ c. P c × (rk p < rk c)) (below p)) (within : (p : ℕ) → P p → rk p < n) where
   -- a list that has grown: who is new has a rank of at least m
   pub record Grown (m : ℕ) (out r : List ℕ) : Type 0 where
     pub order : InDescentOrder below r
-    pub each : All P r
+    pub each : AllByRecursion P r
     pub keeps : (q : ℕ) → is_in q out ≡ true → is_in q r ≡ true
     pub new : (q : ℕ) → is_in q r ≡ true → (is_in q out ≡ true) ⊎ (m ≤ rk q)
 
-  grown_none : (m : ℕ) (out : List ℕ) → InDescentOrder below out → All P out → Grown m out out
+  grown_none : (m : ℕ) (out : List ℕ) → InDescentOrder below out → AllByRecursion P out → Grown m out out
   grown_none m out t a = record { order = t; each = a; keeps = λ q h. h; new = λ q h. inl h }
 
   grown_two : (m : ℕ) (a b c : List ℕ) → Grown m a b → Grown m b c → Grown m a c
@@ -35,10 +35,10 @@ module _ (below : ℕ → List ℕ) (n : ℕ) (rk : ℕ → ℕ) (P : ℕ → Ty
 
   -- what listing somebody does to a list in order
   abbrev Lists : (ℕ → List ℕ → List ℕ) → ℕ → ℕ → Type 0
-  Lists g m c = (out : List ℕ) → InDescentOrder below out → All P out → Grown m out (g c out) × (is_in c (g c out) ≡ true)
+  Lists g m c = (out : List ℕ) → InDescentOrder below out → AllByRecursion P out → Grown m out (g c out) × (is_in c (g c out) ≡ true)
 
-  pub lists_all : (g : ℕ → List ℕ → List ℕ) (m : ℕ) (cs : List ℕ) → All (Lists g m) cs → (out : List ℕ) → InDescentOrder below out → All P out
-      → Grown m out (all_listed g cs out) × All (λ c. is_in c (all_listed g cs out) ≡ true) cs
+  pub lists_all : (g : ℕ → List ℕ → List ℕ) (m : ℕ) (cs : List ℕ) → AllByRecursion (Lists g m) cs → (out : List ℕ) → InDescentOrder below out → AllByRecursion P out
+      → Grown m out (all_listed g cs out) × AllByRecursion (λ c. is_in c (all_listed g cs out) ≡ true) cs
   unfolding all_listed
   lists_all g m [] h out t a = (grown_none m out t a, tt)
   lists_all g m (c ∷ cs) h out t a =
@@ -47,7 +47,7 @@ module _ (below : ℕ → List ℕ) (n : ℕ) (rk : ℕ → ℕ) (P : ℕ → Ty
       (grown_two m out (g c out) (all_listed g cs (g c out)) x.0 y.0, (y.0.keeps c x.1, y.1))
 
   -- who is put in front was not there
-  front : (p : ℕ) (out r : List ℕ) → P p → is_in p out ≡ false → Grown (suc (rk p)) out r → All (λ c. is_in c r ≡ true) (below p)
+  front : (p : ℕ) (out r : List ℕ) → P p → is_in p out ≡ false → Grown (suc (rk p)) out r → AllByRecursion (λ c. is_in c r ≡ true) (below p)
       → Grown (rk p) out (p ∷ r) × (is_in p (p ∷ r) ≡ true)
   unfolding InDescentOrder
   front p out r v n g k = (
@@ -90,18 +90,18 @@ module _ {g : Family} {rk : ℕ → ℕ} (s : Ranked g rk) where
   alive_there p v = ⊎_elim (λ (l : p < length g). l) (λ (l : length g ≤ p). absurd (both_ways (alive g p) (alive_past s p l) v)) (cases_lt p (length g))
 
   -- the lines below live, and their ranks are higher
-  pub divided_among_lives : (p : ℕ) → All (λ c. (alive g c ≡ true) × (rk p < rk c)) (divided_among g p)
+  pub divided_among_lives : (p : ℕ) → AllByRecursion (λ c. (alive g c ≡ true) × (rk p < rk c)) (divided_among g p)
   divided_among_lives p =
-      cond_both (person g p).lives [] (lines_below g (length g) p) (All (λ c. (alive g c ≡ true) × (rk p < rk c))) (λ _. tt)
+      cond_both (person g p).lives [] (lines_below g (length g) p) (AllByRecursion (λ c. (alive g c ≡ true) × (rk p < rk c))) (λ _. tt)
       (λ _.
       all_both (λ c. is_child g p c ≡ true) (λ c. alive g c ≡ true) (λ c. (alive g c ≡ true) × (rk p < rk c)) (λ c k v. (v, s.up p c k)) (lines_below g (length g) p)
       (below_child g (length g) p) (below_lives g (length g) p))
 
-  pub divided_among_there : (p : ℕ) → All (λ c. c < length g) (divided_among g p)
+  pub divided_among_there : (p : ℕ) → AllByRecursion (λ c. c < length g) (divided_among g p)
   divided_among_there p =
       All-weaker (λ c. (alive g c ≡ true) × (rk p < rk c)) (λ c. c < length g) (λ c k. alive_there c k.0) (divided_among g p) (divided_among_lives p)
 
-  pub listing : (os : List ℕ) → InDescentOrder (divided_among g) os → All (λ q. alive g q ≡ true) os → Listing g os
+  pub listing : (os : List ℕ) → InDescentOrder (divided_among g) os → AllByRecursion (λ q. alive g q ≡ true) os → Listing g os
   listing os t a =
       let there = All-weaker (λ q. alive g q ≡ true) (λ q. q < length g) alive_there os a in
       record { order = t; there = there; living = a; most = once_most (length g) os (order_once (divided_among g) os t) there }

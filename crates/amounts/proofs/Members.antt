@@ -1,6 +1,6 @@
 -- Who is in a list, and how long a list is in which each is there once. Assumes nothing.
 use Rattle.std.proofs.Common.{◌≡◌, ℕ, zero, suc, ◌+◌, ◌<◌, ◌≤◌, Bool, true, false, cond, ◌||◌, eqb, ◌≢◌, ◌⊎◌, List, [], ◌∷◌, length, sym, refl, ap, ◌∙◌, subst, ap₂, inl, inr, ⊎_elim, arith}
-use Rattle.std.specs.List.{AllByRecursion as All}
+use Rattle.std.specs.List.{AllByRecursion}
 use Rattle.std.proofs.lemmas.Bool.{cases_eq, eq-eqb, ne_eqb, eqb-true, eqb-false, or_left, or_right, or_cases, or_parts, both_ways, cond_both}
 use Rattle.law.specs.Family.{some_of}
 use Rattle.amounts.specs.Passes.{is_in, InDescentOrder}
@@ -30,11 +30,11 @@ pub in_not : (p q : ℕ) (ps : List ℕ) → is_in p ps ≡ true → is_in q ps 
 in_not p q ps h k e = both_ways (is_in q ps) k (ap (λ (x : ℕ). is_in x ps) (sym e) ∙ h)
 
 -- what holds of all holds of whoever is in the list, and the other way round
-pub all_in : (P : ℕ → Type 0) (ps : List ℕ) → All P ps → (p : ℕ) → is_in p ps ≡ true → P p
+pub all_in : (P : ℕ → Type 0) (ps : List ℕ) → AllByRecursion P ps → (p : ℕ) → is_in p ps ≡ true → P p
 all_in P [] a p h = absurd (in_none p h)
 all_in P (q ∷ qs) a p h = ⊎_elim (λ (e : p ≡ q). subst P (sym e) a.0) (λ e. all_in P qs a.1 p e) (in_cases p q qs h)
 
-pub in_all : (P : ℕ → Type 0) (ps : List ℕ) → ((p : ℕ) → is_in p ps ≡ true → P p) → All P ps
+pub in_all : (P : ℕ → Type 0) (ps : List ℕ) → ((p : ℕ) → is_in p ps ≡ true → P p) → AllByRecursion P ps
 in_all P [] h = tt
 in_all P (q ∷ qs) h = (h q (in_here q qs), in_all P qs (λ p k. h p (in_later p q qs k)))
 
@@ -78,12 +78,12 @@ in_more (suc n) p ps l h =
     (cases_eq p n)
 
 -- persons below n, each once, are no more than n
-pub once_most : (n : ℕ) (ps : List ℕ) → Once ps → All (λ p. p < n) ps → length ps ≤ n
+pub once_most : (n : ℕ) (ps : List ℕ) → Once ps → AllByRecursion (λ p. p < n) ps → length ps ≤ n
 once_most n ps o a = let e = counted ps o a in let y = in_most n ps in omega arith
   where
     parts : (p : ℕ) (ps : List ℕ) → Once (p ∷ ps) → (is_in p ps ≡ false) × Once ps
     parts p ps o = unfold Once in o
 
-    counted : (ps : List ℕ) → Once ps → All (λ p. p < n) ps → length ps ≤ how_many_in n ps
+    counted : (ps : List ℕ) → Once ps → AllByRecursion (λ p. p < n) ps → length ps ≤ how_many_in n ps
     counted [] o a = omega arith
     counted (p ∷ ps) o a = let r = parts p ps o in let y = counted ps r.1 a.1 in let e = in_more n p ps a.0 r.0 in omega arith

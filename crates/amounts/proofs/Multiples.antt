@@ -1,7 +1,7 @@
 -- The least number that all parts of a row divide, without and with a cut at 2 to the 32nd. Assumes nothing.
 use Rattle.std.proofs.Common.{◌≡◌, ℕ, zero, suc, ◌*◌, ◌/◌, ◌%◌, ◌<◌, ◌≤◌, true, cond, eqb, ltb, List, [], ◌∷◌, ◌++◌, map, length, sym, refl, ap, ◌∙◌, subst, ⊎_elim, arith}
 use native.Mathlib.Nat.{eq_of_mul-eq-mul_left}
-use Rattle.std.specs.List.{flat_map, AllByRecursion as All}
+use Rattle.std.specs.List.{flat_map, AllByRecursion}
 use Rattle.std.proofs.lemmas.Bool.{cases_lt, cases_eq, and_parts, and_from, lt-ltb, le-ltb, cond-true, cond-false, cond_both}
 use Rattle.law.specs.Family.{Part}
 use Rattle.law.specs.Calls.{gcd, common_multiple, divides_all}
@@ -76,7 +76,7 @@ multiple_least n (q ∷ qs) h =
 pub multiple_enough : (n : ℕ) (ps : List Part) → Divides (parts_multiple ps) n → divides_all n ps ≡ true
 multiple_enough n ps p = divides_more (parts_multiple ps) n ps p (multiple_divides ps)
 
-pub multiple_positive : (ps : List Part) → All Positive ps → 0 < parts_multiple ps
+pub multiple_positive : (ps : List Part) → AllByRecursion Positive ps → 0 < parts_multiple ps
 unfolding parts_multiple
 multiple_positive [] a = omega arith
 multiple_positive (q ∷ qs) a = lcm_positive q.by (parts_multiple qs) a.0 (multiple_positive qs a.1)
@@ -140,7 +140,7 @@ common_multiple_part_zero q ps n z =
     times_zero x b e = ap (λ (z : ℕ). x * z) e ∙ (let g : x * 0 ≡ 0 = omega arith in g)
 
 -- cutting each number changes nothing of the least common multiple, which is cut itself
-pub common_multiple_words : (ps : List Part) (n : ℕ) → All Positive ps → common_multiple (map cut_part ps) n ≡ common_multiple ps n
+pub common_multiple_words : (ps : List Part) (n : ℕ) → AllByRecursion Positive ps → common_multiple (map cut_part ps) n ≡ common_multiple ps n
 unfolding common_multiple
 common_multiple_words [] n a = refl
 common_multiple_words (q ∷ qs) n a =

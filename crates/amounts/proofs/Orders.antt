@@ -1,6 +1,6 @@
 -- The lines that an estate begins with, by the order that inherits: their parts are those of the relatives. Assumes nothing.
 use Rattle.std.proofs.Common.{◌≡◌, ℕ, zero, suc, ◌*◌, ◌/◌, ◌<◌, ◌≤◌, Bool, true, false, cond, not, eqb, List, [], ◌∷◌, ◌++◌, map, length, filter, sym, refl, ap, ◌∙◌, subst, mul-le-mul_right, div-mul-le_self, le_of_mul-le-mul_right, arith}
-use Rattle.std.specs.List.{flat_map, AllByRecursion as All}
+use Rattle.std.specs.List.{flat_map, AllByRecursion}
 use Rattle.std.proofs.lemmas.List.{length-append, length-map, append-nil}
 use Rattle.std.proofs.ByRecursion.{kept_by_passes, sum_by_le}
 use Rattle.std.proofs.lemmas.List.Sums.{length-filter, count_by-le-length}
@@ -82,42 +82,42 @@ times_most : (b x y : ℕ) → x ≤ y → b * x ≤ b * y
 times_most b x y l = let z = mul-le-mul_right b l in omega arith
 
 module _ {g : Family} {rk : ℕ → ℕ} (s : Ranked g rk) where
-  each_fit : (m k : ℕ) (ws : List ℕ) → 0 < k → k ≤ m → All (λ w. alive g w ≡ true) ws → All (Fit g m) (map (λ w. record { who = w; by = k }) ws)
+  each_fit : (m k : ℕ) (ws : List ℕ) → 0 < k → k ≤ m → AllByRecursion (λ w. alive g w ≡ true) ws → AllByRecursion (Fit g m) (map (λ w. record { who = w; by = k }) ws)
   each_fit m k [] l h a = tt
   each_fit m k (w ∷ ws) l h a = ((a.0, alive_there s w a.0, l, h), each_fit m k ws l h a.1)
 
-  among_fit : (m b : ℕ) (ws : List ℕ) → 0 < b → length ws ≤ 2 → b * 2 ≤ m → All (λ w. alive g w ≡ true) ws → All (Fit g m) (map (λ w. record { who = w; by = b * length ws }) ws)
+  among_fit : (m b : ℕ) (ws : List ℕ) → 0 < b → length ws ≤ 2 → b * 2 ≤ m → AllByRecursion (λ w. alive g w ≡ true) ws → AllByRecursion (Fit g m) (map (λ w. record { who = w; by = b * length ws }) ws)
   among_fit m b [] l k h a = tt
   among_fit m b (w ∷ ws) l k h a =
       each_fit m (b * length (w ∷ ws)) (w ∷ ws) (times_positive b (length (w ∷ ws)) l (omega arith)) (let z = times_most b (length (w ∷ ws)) 2 k in omega arith) a
 
-  couple_fit : (m b p : ℕ) → 0 < b → b * 2 ≤ m → All (Fit g m) (couple_starts g (parents g p) b)
+  couple_fit : (m b p : ℕ) → 0 < b → b * 2 ≤ m → AllByRecursion (Fit g m) (couple_starts g (parents g p) b)
   couple_fit m b p l h = among_fit m b (living_lines g (length g) (parents g p)) l (living_most g p) h (kept_by_passes (λ q. line_lives g (length g) q) (parents g p))
 
-  third_fit : (b : ℕ) (ps : List ℕ) → 0 < b → length ps ≤ 2 → All (Fit g (4 * b)) (third_starts g ps b)
+  third_fit : (b : ℕ) (ps : List ℕ) → 0 < b → length ps ≤ 2 → AllByRecursion (Fit g (4 * b)) (third_starts g ps b)
   third_fit b [] l k = tt
   third_fit b (p ∷ ps) l k =
       let c = b * length (p ∷ ps) in
       let m : b * length (p ∷ ps) ≤ b * 2 = times_most b (length (p ∷ ps)) 2 k in
       joined_all (Fit g (4 * b)) (λ q. couple_starts g (parents g q) c) (p ∷ ps)
-      (all_any (λ q. All (Fit g (4 * b)) (couple_starts g (parents g q) c))
+      (all_any (λ q. AllByRecursion (Fit g (4 * b)) (couple_starts g (parents g q) c))
       (λ q. couple_fit (4 * b) c q (times_positive b (length (p ∷ ps)) l (omega arith)) (double b (b * length (p ∷ ps)) m)) (p ∷ ps))
     where
       double : (b c : ℕ) → c ≤ b * 2 → c * 2 ≤ 4 * b
       double b c h = omega arith
 
-  pub kept_starts_fit : (d b : ℕ) → 0 < b → All (Fit g (4 * b)) (kept_starts g d b)
+  pub kept_starts_fit : (d b : ℕ) → 0 < b → AllByRecursion (Fit g (4 * b)) (kept_starts g d b)
   kept_starts_fit d b l =
       cond_both (eqb (kept_order g d) 1) (record { who = d; by = b } ∷ [])
-      (cond (eqb (kept_order g d) 2) (couple_starts g (parents g d) b) (cond (eqb (kept_order g d) 3) (third_starts g (kept_sides g d) b) [])) (All (Fit g (4 * b)))
+      (cond (eqb (kept_order g d) 2) (couple_starts g (parents g d) b) (cond (eqb (kept_order g d) 3) (third_starts g (kept_sides g d) b) [])) (AllByRecursion (Fit g (4 * b)))
       (λ e.
       let a = first (alive g d) (not (eqb (length (living_lines g (length g) (parents g d))) 0)) (not (eqb (length (kept_sides g d)) 0)) e in
       ((a, alive_there s d a, l, four b), tt))
       (λ _.
-      cond_both (eqb (kept_order g d) 2) (couple_starts g (parents g d) b) (cond (eqb (kept_order g d) 3) (third_starts g (kept_sides g d) b) []) (All (Fit g (4 * b)))
+      cond_both (eqb (kept_order g d) 2) (couple_starts g (parents g d) b) (cond (eqb (kept_order g d) 3) (third_starts g (kept_sides g d) b) []) (AllByRecursion (Fit g (4 * b)))
       (λ _. couple_fit (4 * b) b d l (two b))
       (λ _.
-      cond_both (eqb (kept_order g d) 3) (third_starts g (kept_sides g d) b) [] (All (Fit g (4 * b))) (λ _. third_fit b (kept_sides g d) l (sides_most g d)) (λ _. tt)))
+      cond_both (eqb (kept_order g d) 3) (third_starts g (kept_sides g d) b) [] (AllByRecursion (Fit g (4 * b))) (λ _. third_fit b (kept_sides g d) l (sides_most g d)) (λ _. tt)))
     where
       first : (x y z : Bool) → eqb (cond x 1 (cond y 2 (cond z 3 4))) 1 ≡ true → x ≡ true
       first true y z e = refl

@@ -1,6 +1,6 @@
 -- Downward along a listing everybody comes to what all their parts come to. Assumes nothing.
 use Rattle.std.proofs.Common.{◌≡◌, ℕ, zero, suc, ◌+◌, ◌*◌, ◌/◌, ◌<◌, ◌≤◌, Bool, true, false, cond, eqb, ◌≢◌, List, [], ◌∷◌, length, get_or, set, sum_by, sym, refl, ap, ◌∙◌, subst, ap₂, ⊎_elim, div-one, arith}
-use Rattle.std.specs.List.{AllByRecursion as All}
+use Rattle.std.specs.List.{AllByRecursion}
 use Rattle.std.proofs.lemmas.List.{length-set, get_or-set_same, get_or-set_other, get_or_past}
 use Rattle.std.proofs.ByRecursion.{All-weaker}
 use Rattle.std.proofs.lemmas.List.Sums.{sum_by-cons}
@@ -111,7 +111,7 @@ module _ {g : Family} {rk : ℕ → ℕ} (s : Ranked g rk) where
         let k : line_pieces g w c (x + y) ≡ line_pieces g w c x + line_pieces g w c y = pieces_sum x y w (line_parts g (length g) c 1) (h c) d in
         (omega arith, whole_set row c (x + y) h (divides_sum x y (line_parts g (length g) c 1) (h c) d))
 
-    total_added : (cs : List ℕ) (y : ℕ) (row : List ℕ) → All (λ c. c < length row) cs → All (λ c. divides_all y (line_parts g (length g) c 1) ≡ true) cs → Whole row
+    total_added : (cs : List ℕ) (y : ℕ) (row : List ℕ) → AllByRecursion (λ c. c < length row) cs → AllByRecursion (λ c. divides_all y (line_parts g (length g) c 1) ≡ true) cs → Whole row
         → (total (added_each cs y row) ≡ sum_by (λ c. line_pieces g w c y) cs + total row) × Whole (added_each cs y row)
     unfolding added_each
     total_added [] y row l d h = (omega arith, h)
@@ -140,7 +140,7 @@ module _ {g : Family} {rk : ℕ → ℕ} (s : Ranked g rk) where
         one k = omega arith
 
     divides_below : (q x : ℕ) → (person g q).lives ≡ false → divides_all x (line_parts g (length g) q 1) ≡ true
-        → All (λ c. divides_all (x / length (lines_below g (length g) q)) (line_parts g (length g) c 1) ≡ true) (lines_below g (length g) q)
+        → AllByRecursion (λ c. divides_all (x / length (lines_below g (length g) q)) (line_parts g (length g) c 1) ≡ true) (lines_below g (length g) q)
     divides_below q x v h =
         let ws = lines_below g (length g) q in
         let k = length ws in
@@ -167,7 +167,7 @@ module _ {g : Family} {rk : ℕ → ℕ} (s : Ranked g rk) where
         let put = total_put row q 0 there in
         let t =
         total_added ws (x / length ws) r
-        (All-weaker (λ c. c < length g) (λ c. c < length r) (λ c k. let z = length-set row q 0 in omega arith) ws (subst (All (λ c. c < length g)) (among_dead s q v) (divided_among_there s q)))
+        (All-weaker (λ c. c < length g) (λ c. c < length r) (λ c k. let z = length-set row q 0 in omega arith) ws (subst (AllByRecursion (λ c. c < length g)) (among_dead s q v) (divided_among_there s q)))
         (divides_below q x v (h q)) (whole_set row q 0 h (divides_nothing (line_parts g (length g) q 1))) in
         let e = t.0 in
         let k = pieces_divided q x v in
@@ -175,7 +175,7 @@ module _ {g : Family} {rk : ℕ → ℕ} (s : Ranked g rk) where
         (sym (ap (λ (cs : List ℕ). handed_on cs q row) (among_dead s q v) ∙ handed_many ws q row (some_below s q a v))) (omega arith, t.1))
         (cases_Bool (person g q).lives)
 
-    total_handed_down : (os row : List ℕ) → All (λ q. alive g q ≡ true) os → length g ≤ length row → Whole row → total (handed_down (divided_among g) os row) ≡ total row
+    total_handed_down : (os row : List ℕ) → AllByRecursion (λ q. alive g q ≡ true) os → length g ≤ length row → Whole row → total (handed_down (divided_among g) os row) ≡ total row
     unfolding handed_down
     total_handed_down [] row a l h = refl
     total_handed_down (q ∷ qs) row a l h =
@@ -184,7 +184,7 @@ module _ {g : Family} {rk : ℕ → ℕ} (s : Ranked g rk) where
         total_handed_down qs (handed_on (divided_among g q) q row) a.1 (omega arith) t.1 ∙ t.0
 
     -- what lines begin with
-    total_started : (times n : ℕ) (ss : List Part) (row : List ℕ) → All (λ (p : Part). p.who < length row) ss → divides_all n (starts_parts g ss) ≡ true → Whole row
+    total_started : (times n : ℕ) (ss : List Part) (row : List ℕ) → AllByRecursion (λ (p : Part). p.who < length row) ss → divides_all n (starts_parts g ss) ≡ true → Whole row
         → (total (started times n ss row) ≡ times * pieces n (starts_parts g ss) w + total row) × Whole (started times n ss row)
     unfolding started pieces
     total_started times n [] row l d h = (omega arith, h)
@@ -235,7 +235,7 @@ module _ {g : Family} {rk : ℕ → ℕ} (s : Ranked g rk) where
         nought : (p : ℕ) → 0 + p ≡ p
         nought p = omega arith
 
-        there : All (λ (p : Part). p.who < length row) ss
+        there : AllByRecursion (λ (p : Part). p.who < length row) ss
         there = All-weaker (λ (p : Part). alive g p.who ≡ true) (λ (p : Part). p.who < length row) (λ p a. let v = alive_there s p.who a in omega arith) ss b.living
 
         whole : Whole row

@@ -1,7 +1,7 @@
 -- Rows of parts of which each number is so many times larger; what joined rows come to; pieces of a sum. Assumes nothing.
 use Rattle.std.proofs.Common.{◌≡◌, ℕ, zero, suc, ◌+◌, ◌*◌, ◌/◌, ◌%◌, Bool, true, false, cond, not, ◌&&◌, eqb, List, [], ◌∷◌, ◌++◌, map, length, sum_by, sym, refl, ap, ◌∙◌, ap₂, arith}
 use native.Mathlib.Nat.{div-div-eq-div-mul, div-zero, zero-div, mul-div_right}
-use Rattle.std.specs.List.{flat_map, AllByRecursion as All}
+use Rattle.std.specs.List.{flat_map, AllByRecursion}
 use Rattle.std.proofs.lemmas.List.{length-append, length-map, map-append}
 use Rattle.std.proofs.lemmas.List.Sums.{sum_by-cons}
 use Rattle.std.proofs.lemmas.Bool.{and_parts, and_from}
@@ -155,7 +155,7 @@ pieces_times (suc t) x w ps h =
     more t x = omega arith
 
 -- sums over persons, and over joined rows
-pub sumBy_cong : {X : Type 0} (g h : X → ℕ) (xs : List X) → All (λ x. g x ≡ h x) xs → sum_by g xs ≡ sum_by h xs
+pub sumBy_cong : {X : Type 0} (g h : X → ℕ) (xs : List X) → AllByRecursion (λ x. g x ≡ h x) xs → sum_by g xs ≡ sum_by h xs
 sumBy_cong g h [] a = refl
 sumBy_cong g h (x ∷ xs) a = sum_by-cons g x xs ∙ (ap₂ (λ (u v : ℕ). u + v) a.0 (sumBy_cong g h xs a.1) ∙ sym (sum_by-cons h x xs))
 

@@ -1,6 +1,6 @@
 -- The lines that an estate begins with: how many parts they have, over which number, and what they begin with together. Assumes nothing.
 use Rattle.std.proofs.Common.{◌≡◌, ℕ, zero, suc, ◌+◌, ◌*◌, ◌%◌, ◌<◌, ◌≤◌, true, eqb, leb, List, [], ◌∷◌, ◌++◌, map, length, get_or, sum_by, sym, refl, ap, ◌∙◌, subst, ap₂, ⊎_elim, arith}
-use Rattle.std.specs.List.{AllByRecursion as All}
+use Rattle.std.specs.List.{AllByRecursion}
 use Rattle.std.proofs.lemmas.List.{length-append}
 use Rattle.std.proofs.ByRecursion.{All-weaker, All-map}
 use Rattle.std.proofs.lemmas.Bool.{cases_lt, and_from, and_parts, lt-leb}
@@ -47,13 +47,13 @@ abbrev full_numbers : Family → List Part → List Part
 full_numbers g ss = map (λ (p : Part). record { who = p.who; by = p.by * line_multiple g p.who }) ss
 
 module _ {g : Family} {rk : ℕ → ℕ} (s : Ranked g rk) where
-  full_positive : (ss : List Part) → All Positive ss → All Positive (full_numbers g ss)
+  full_positive : (ss : List Part) → AllByRecursion Positive ss → AllByRecursion Positive (full_numbers g ss)
   full_positive ss a =
       All-map Positive (λ (p : Part). record { who = p.who; by = p.by * line_multiple g p.who }) ss
       (All-weaker Positive (λ (p : Part). 0 < p.by * line_multiple g p.who) (λ p l. times_positive p.by (line_multiple g p.who) l (line_multiple_positive s p.who)) ss a)
 
   -- they divide just what all parts divide
-  full_enough : (n : ℕ) (ss : List Part) → All (λ (p : Part). alive g p.who ≡ true) ss → divides_all n (full_numbers g ss) ≡ true → divides_all n (starts_parts g ss) ≡ true
+  full_enough : (n : ℕ) (ss : List Part) → AllByRecursion (λ (p : Part). alive g p.who ≡ true) ss → divides_all n (full_numbers g ss) ≡ true → divides_all n (starts_parts g ss) ≡ true
   unfolding divides_all
   full_enough n [] a h = refl
   full_enough n (p ∷ ss) a h =
@@ -64,7 +64,7 @@ module _ {g : Family} {rk : ℕ → ℕ} (s : Ranked g rk) where
       ∙ and_from (divides_all n row) (divides_all n (starts_parts g ss))
       (multiple_enough n row (subst (λ (k : ℕ). Divides k n) (sym (multiple_by s p.who p.by a.0)) (test_divides m n r.0))) (full_enough n ss a.1 r.1)
 
-  full_least : (n : ℕ) (ss : List Part) → All (λ (p : Part). alive g p.who ≡ true) ss → divides_all n (starts_parts g ss) ≡ true → divides_all n (full_numbers g ss) ≡ true
+  full_least : (n : ℕ) (ss : List Part) → AllByRecursion (λ (p : Part). alive g p.who ≡ true) ss → divides_all n (starts_parts g ss) ≡ true → divides_all n (full_numbers g ss) ≡ true
   unfolding divides_all
   full_least n [] a h = refl
   full_least n (p ∷ ss) a h =
@@ -80,7 +80,7 @@ module _ {g : Family} {rk : ℕ → ℕ} (s : Ranked g rk) where
       divides_append n lead qs ∙ and_from (divides_all n lead) (divides_all n qs) r.0 (f r.1)
 
   -- the least number of all parts, with a row beside them, of which the parts count any number of times
-  number_full : (lead ss : List Part) (t : ℕ) → All (λ (p : Part). alive g p.who ≡ true) ss
+  number_full : (lead ss : List Part) (t : ℕ) → AllByRecursion (λ (p : Part). alive g p.who ≡ true) ss
       → common_multiple (lead ++ repeated (suc t) (starts_parts g ss)) 1 ≡ common_multiple (lead ++ full_numbers g ss) 1
   number_full lead ss t a =
       common_multiple_append lead (repeated (suc t) (starts_parts g ss)) 1
@@ -97,7 +97,7 @@ module _ {g : Family} {rk : ℕ → ℕ} (s : Ranked g rk) where
     multiples = filled_up multiple_step (divided_among g) os row
 
     -- the numbers that the passes leave, cut
-    numbers_cut : (ss : List Part) → All (λ (p : Part). is_in p.who os ≡ true) ss → starts_numbers multiples ss ≡ map cut_part (full_numbers g ss)
+    numbers_cut : (ss : List Part) → AllByRecursion (λ (p : Part). is_in p.who os ≡ true) ss → starts_numbers multiples ss ≡ map cut_part (full_numbers g ss)
     numbers_cut [] a = refl
     numbers_cut (p ∷ ss) a =
         ap₂ (λ (x : ℕ) (ps : List Part). record { who = p.who; by = x } ∷ ps)

@@ -1,6 +1,6 @@
 -- One turn of a loop downward, and that every number on the way fits where all together did at the start. Assumes nothing.
 use Rattle.std.proofs.Common.{◌≡◌, ℕ, ◌+◌, ◌*◌, ◌/◌, ◌<◌, ◌≤◌, List, [], ◌∷◌, map, length, get_or, drop, set, sum, sym, refl, ap, ◌∙◌, ⊎_elim, arith}
-use Rattle.std.specs.List.{range_with_len, AllByRecursion as All}
+use Rattle.std.specs.List.{range_with_len, AllByRecursion}
 use Rattle.std.proofs.lemmas.List.FromFn.{fill_by_all}
 use Rattle.std.proofs.ByRecursion.{All-weaker}
 use Rattle.std.proofs.lemmas.List.{length-set, get_or-set_same, get_or-set_other, drop_more, drop_all}
@@ -33,7 +33,7 @@ unfolding added_each
 added_end cs j more row l = ap (λ (ds : List ℕ). added_each ds more row) (drop_all j cs l)
 
 -- nobody has less for it, so that what fits at the end fits before
-added_grows : (cs : List ℕ) (more : ℕ) (row : List ℕ) (w : ℕ) → All (λ c. c < length row) cs → get_or row w 0 ≤ get_or (added_each cs more row) w 0
+added_grows : (cs : List ℕ) (more : ℕ) (row : List ℕ) (w : ℕ) → AllByRecursion (λ c. c < length row) cs → get_or row w 0 ≤ get_or (added_each cs more row) w 0
 unfolding added_each
 added_grows [] more row w l = omega arith
 added_grows (c ∷ cs) more row w l =
@@ -47,7 +47,7 @@ added_grows (c ∷ cs) more row w l =
     omega arith)
     (λ (n : w ≡ c → ⊥). let a = get_or-set_other row c w (get_or row c 0 + more) 0 n in omega arith) (cases_eq w c)
 
-pub added_fits : (cs : List ℕ) (c more most : ℕ) (row : List ℕ) → c < length row → All (λ x. x < length row) cs → sum (added_each (c ∷ cs) more row) ≤ most
+pub added_fits : (cs : List ℕ) (c more most : ℕ) (row : List ℕ) → c < length row → AllByRecursion (λ x. x < length row) cs → sum (added_each (c ∷ cs) more row) ≤ most
     → get_or row c 0 + more ≤ most
 unfolding added_each
 added_fits cs c more most row l a h =
@@ -59,7 +59,7 @@ added_fits cs c more most row l a h =
     omega arith
 
 -- what lines begin with, for each person: so many times their pieces of these parts
-pub started_pieces : (times n : ℕ) (ss : List Part) (row : List ℕ) (w : ℕ) → All (λ (s : Part). s.who < length row) ss
+pub started_pieces : (times n : ℕ) (ss : List Part) (row : List ℕ) (w : ℕ) → AllByRecursion (λ (s : Part). s.who < length row) ss
     → get_or (started times n ss row) w 0 ≡ get_or row w 0 + times * pieces n ss w
 unfolding started pieces
 started_pieces times n [] row w a = omega arith

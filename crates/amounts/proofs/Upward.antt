@@ -1,6 +1,6 @@
 -- Upward along a list: what holds of everybody's number, if it follows from the numbers of those below. Assumes nothing.
 use Rattle.std.proofs.Common.{◌≡◌, ℕ, ◌<◌, true, false, List, [], ◌∷◌, length, get_or, set, sym, refl, ap, ◌∙◌, ⊎_elim, arith}
-use Rattle.std.specs.List.{AllByRecursion as All}
+use Rattle.std.specs.List.{AllByRecursion}
 use Rattle.std.proofs.lemmas.List.{length-set, get_or-set_same, get_or-set_other}
 use Rattle.std.proofs.ByRecursion.{All-weaker}
 use Rattle.std.proofs.lemmas.Bool.{cases_eq}
@@ -22,8 +22,8 @@ module _ (step : List ℕ → List ℕ → ℕ) (below : ℕ → List ℕ) where
       get_or-set_other (filled_up step below qs row) q w (step (below q) (filled_up step below qs row)) 0 r.0 ∙ filled_other qs row w r.1
 
   -- everybody in the list has the value that follows from the values of those below
-  pub filled_right : (value : ℕ → ℕ) (os row : List ℕ) → InDescentOrder below os → All (λ q. q < length row) os
-      → All (λ q. (r : List ℕ) → All (λ c. get_or r c 0 ≡ value c) (below q) → step (below q) r ≡ value q) os
+  pub filled_right : (value : ℕ → ℕ) (os row : List ℕ) → InDescentOrder below os → AllByRecursion (λ q. q < length row) os
+      → AllByRecursion (λ q. (r : List ℕ) → AllByRecursion (λ c. get_or r c 0 ≡ value c) (below q) → step (below q) r ≡ value q) os
       → (w : ℕ) → is_in w os ≡ true → get_or (filled_up step below os row) w 0 ≡ value w
   unfolding filled_up InDescentOrder
   filled_right value [] row t l h w m = absurd (in_none w m)

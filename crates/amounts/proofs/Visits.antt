@@ -1,6 +1,6 @@
 -- How often the passes meet somebody: from their mother and from their father. Assumes nothing.
 use Rattle.std.proofs.Common.{◌≡◌, ℕ, zero, suc, ◌+◌, ◌*◌, ◌<◌, ◌≤◌, Bool, true, false, cond, ◌&&◌, ◌||◌, eqb, ◌≢◌, List, [], ◌∷◌, length, sum_by, count_by, filter, sym, refl, ap, ◌∙◌, ⊎_elim, arith}
-use Rattle.std.specs.List.{range_with_len, AllByRecursion as All}
+use Rattle.std.specs.List.{range_with_len, AllByRecursion}
 use Rattle.std.proofs.lemmas.List.FromFn.{length-range_with_len}
 use Rattle.std.proofs.lemmas.List.Sums.{sum_by-cons}
 use Rattle.std.proofs.ByRecursion.{sum_by_le}
@@ -38,7 +38,7 @@ sum_swap h (x ∷ xs) ys =
     sum_plus (λ y. h x y) (λ y. sum_by (λ z. h z y) xs) (λ y. sum_by (λ z. h z y) (x ∷ xs)) ys (λ y. sum_by-cons (λ z. h z y) x xs) in
     omega arith
 
-sum_less : {X : Type 0} (h k : X → ℕ) (xs : List X) → All (λ x. h x ≤ k x) xs → sum_by h xs ≤ sum_by k xs
+sum_less : {X : Type 0} (h k : X → ℕ) (xs : List X) → AllByRecursion (λ x. h x ≤ k x) xs → sum_by h xs ≤ sum_by k xs
 sum_less h k [] a = omega arith
 sum_less h k (x ∷ xs) a = let l = a.0 in let r = sum_less h k xs a.1 in let c = sum_by-cons h x xs in let d = sum_by-cons k x xs in omega arith
 
@@ -97,7 +97,7 @@ passes_some P x (o ∷ os) h p =
     omega arith)
     (λ (k : is_in x os ≡ true). let r = passes_some P x os k p in omega arith) (in_cases x o os h)
 
-pub sub_count : (P : ℕ → Bool) (xs os : List ℕ) → Once xs → All (λ x. (is_in x os ≡ true) × (P x ≡ true)) xs → length xs ≤ count_by P os
+pub sub_count : (P : ℕ → Bool) (xs os : List ℕ) → Once xs → AllByRecursion (λ x. (is_in x os ≡ true) × (P x ≡ true)) xs → length xs ≤ count_by P os
 sub_count P xs os o a =
     let l : length xs ≤ sum_by (λ x. count_by (λ y. eqb x y && P y) os) xs = each xs a in
     let s : sum_by (λ x. count_by (λ y. eqb x y && P y) os) xs ≡ sum_by (λ y. count_by (λ x. eqb x y && P y) xs) os =
@@ -106,7 +106,7 @@ sub_count P xs os o a =
     sum_less (λ y. count_by (λ x. eqb x y && P y) xs) (λ y. cond {A = ℕ} (P y) 1 0) os (all_any (λ y. count_by (λ x. eqb x y && P y) xs ≤ cond {A = ℕ} (P y) 1 0) most os) in
     omega arith
   where
-    each : (ys : List ℕ) → All (λ x. (is_in x os ≡ true) × (P x ≡ true)) ys → length ys ≤ sum_by (λ x. count_by (λ y. eqb x y && P y) os) ys
+    each : (ys : List ℕ) → AllByRecursion (λ x. (is_in x os ≡ true) × (P x ≡ true)) ys → length ys ≤ sum_by (λ x. count_by (λ y. eqb x y && P y) os) ys
     each [] h = omega arith
     each (y ∷ ys) h =
         let c = sum_by-cons (λ x. count_by (λ z. eqb x z && P z) os) y ys in
@@ -168,9 +168,9 @@ unfolding Once
 divided_among_once g p =
     cond_both (person g p).lives [] (lines_below g (length g) p) Once (λ _. tt) (λ _. kept_once (λ c. line_lives g (length g) c) (children g p) (children_once g p))
 
-pub divided_among_children : (g : Family) (p : ℕ) → All (λ c. is_child g p c ≡ true) (divided_among g p)
+pub divided_among_children : (g : Family) (p : ℕ) → AllByRecursion (λ c. is_child g p c ≡ true) (divided_among g p)
 divided_among_children g p =
-    cond_both (person g p).lives [] (lines_below g (length g) p) (All (λ c. is_child g p c ≡ true)) (λ _. tt) (λ _. below_child g (length g) p)
+    cond_both (person g p).lives [] (lines_below g (length g) p) (AllByRecursion (λ c. is_child g p c ≡ true)) (λ _. tt) (λ _. below_child g (length g) p)
 
 -- how many children
 children_counted : (g : Family) (p n c : ℕ) → length (children_in g p n c) ≡ count_by (λ x. is_child g p x) (range_with_len c n)
@@ -202,7 +202,7 @@ module _ (g : Family) (os : List ℕ) (h : Listing g os) where
       omega arith
     where
       each : (qs : List ℕ) → InDescentOrder (divided_among g) qs → ((c : ℕ) → is_in c qs ≡ true → is_in c os ≡ true)
-          → All (λ q. length (divided_among g q) ≤ count_by (λ c. is_child g q c) os) qs
+          → AllByRecursion (λ q. length (divided_among g q) ≤ count_by (λ c. is_child g q c) os) qs
       each [] t k = tt
       each (q ∷ qs) t k =
           let r = parts q qs t in (
@@ -212,7 +212,7 @@ module _ (g : Family) (os : List ℕ) (h : Listing g os) where
             each qs r.1 (λ c i. k c (in_later c q qs i)),
           )
         where
-          parts : (q : ℕ) (qs : List ℕ) → InDescentOrder (divided_among g) (q ∷ qs) → All (λ c. is_in c qs ≡ true) (divided_among g q) × InDescentOrder (divided_among g) qs
+          parts : (q : ℕ) (qs : List ℕ) → InDescentOrder (divided_among g) (q ∷ qs) → AllByRecursion (λ c. is_in c qs ≡ true) (divided_among g q) × InDescentOrder (divided_among g) qs
           parts q qs t = unfold InDescentOrder in (t.1, t.2)
 
   children_met : sum_by (λ q. length (children g q)) os ≤ 2 * length g

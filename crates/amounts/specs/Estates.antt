@@ -1,7 +1,7 @@
 -- An estate by passes: the lines that it begins with are listed, upward come the number of parts and the least number that all divide, and downward everybody's pieces.
 -- Assumes nothing: these are definitions and a statement whose proof is owed wherever a contract names it.
 use Rattle.std.specs.Prelude.{◌≡◌, ℕ, ◌+◌, ◌*◌, ◌<◌, ◌≤◌, true, cond, List, [], ◌++◌, map, length, sum, ◌==◌, nat_le, slice_index}
-use Rattle.std.specs.List.{range_with_len, AllByRecursion as All}
+use Rattle.std.specs.List.{range_with_len, AllByRecursion}
 use Rattle.law.specs.Family.{person, Family, Part, has_living_spouse, spouse_parts, repeated, estate}
 use Rattle.law.specs.Calls.{common_multiple, divides_all, pieces, all_pieces}
 use Rattle.law.specs.Promise.{OfLine}
@@ -48,7 +48,7 @@ OfSomeLine g ps q = (p : ℕ) × (is_in p ps ≡ true) × OfLine g p q
 pub record ByPasses (g : Family) (d : ℕ) (ps : List Part) : Type 0 where
   pub listing : Listing g (estate_listing g d)
   pub starts : Starts g (estate_listing g d) (estate_starts g d)
-  pub concerned : All (λ q. OfSomeLine g (starts_persons (estate_starts g d)) q) (estate_listing g d)
+  pub concerned : AllByRecursion (λ q. OfSomeLine g (starts_persons (estate_starts g d)) q) (estate_listing g d)
   pub whole : spouse_lead g d ++ repeated (relatives_times g d) (starts_parts g (estate_starts g d)) ≡ ps
   pub parts :
       (row : List ℕ) → length g ≤ length row →

@@ -1,7 +1,7 @@
 -- Passes over persons who are below one another, along a listing of them, with a row of numbers in which each person has a place.
 -- `below` gives for each person those among whom what comes to them is divided: none for whoever has it themself. Assumes nothing: these are definitions.
 use Rattle.std.specs.Prelude.{◌≡◌, ℕ, zero, suc, ◌+◌, ◌*◌, ◌/◌, Bool, true, false, cond, List, [], ◌∷◌, map, length, sum_by, nat_eq, nat_le, nat_lt, slice_index, slice_set}
-use Rattle.std.specs.List.{AllByRecursion as All}
+use Rattle.std.specs.List.{AllByRecursion}
 use Rattle.law.specs.Family.{some_of, Part}
 use Rattle.law.specs.Calls.{common_multiple}
 
@@ -27,7 +27,7 @@ listed n below ps = all_listed (λ p o. listed_in n below p o) ps []
 -- each is there once, and before all who are below them
 unfoldable pub InDescentOrder : (ℕ → List ℕ) → List ℕ → Type 0
 InDescentOrder below [] = Unit {0}
-InDescentOrder below (q ∷ qs) = (is_in q qs ≡ false) × All (λ c. is_in c qs ≡ true) (below q) × InDescentOrder below qs
+InDescentOrder below (q ∷ qs) = (is_in q qs ≡ false) × AllByRecursion (λ c. is_in c qs ≡ true) (below q) × InDescentOrder below qs
 
 -- Upward: from the last of a list to the first, each one's number is worked out from the numbers of those below them.
 unfoldable pub filled_up : (List ℕ → List ℕ → ℕ) → (ℕ → List ℕ) → List ℕ → List ℕ → List ℕ

@@ -1,6 +1,6 @@
 -- What holds of the passes for every family with a rank. Each is a statement: a type whose proof is owed wherever a contract names it. Assumes nothing.
 use Rattle.std.specs.Prelude.{◌≡◌, ℕ, ◌+◌, ◌*◌, ◌<◌, ◌≤◌, true, false, List, ◌++◌, length, replicate, sum_by, sum, nat_le, slice_index}
-use Rattle.std.specs.List.{AllByRecursion as All}
+use Rattle.std.specs.List.{AllByRecursion}
 use Rattle.law.specs.Family.{Family, children, Part, repeated}
 use Rattle.law.specs.Calls.{common_multiple, divides_all, pieces, all_pieces}
 use Rattle.theory.specs.Families.{Ranked}
@@ -12,8 +12,8 @@ use Rattle.amounts.specs.Lines.{divided_among, part_count, line_multiple, kept_s
 -- A list of persons whose lines live: each is there once, and before the lines among which what comes to them is divided.
 pub record Listing (g : Family) (os : List ℕ) : Type 0 where
   pub order : InDescentOrder (divided_among g) os
-  pub there : All (λ q. q < length g) os
-  pub living : All (λ q. alive g q ≡ true) os
+  pub there : AllByRecursion (λ q. q < length g) os
+  pub living : AllByRecursion (λ q. alive g q ≡ true) os
   pub most : length os ≤ length g
 
 -- Listing one more line that lives, with steps enough by its rank, leaves such a list, with that person and all who were in it.
@@ -35,12 +35,12 @@ MetFromTwo =
 unfoldable pub CountsRight : Type 0
 CountsRight =
     (g : Family) (rk : ℕ → ℕ) (os row : List ℕ) → Ranked g rk → Listing g os → length g ≤ length row →
-    All (λ q. slice_index (filled_up count_step (divided_among g) os row) q ≡ few (part_count g q)) os
+    AllByRecursion (λ q. slice_index (filled_up count_step (divided_among g) os row) q ≡ few (part_count g q)) os
 
 unfoldable pub MultiplesRight : Type 0
 MultiplesRight =
     (g : Family) (rk : ℕ → ℕ) (os row : List ℕ) → Ranked g rk → Listing g os → length g ≤ length row →
-    All (λ q. slice_index (filled_up multiple_step (divided_among g) os row) q ≡ word_or_zero (line_multiple g q)) os
+    AllByRecursion (λ q. slice_index (filled_up multiple_step (divided_among g) os row) q ≡ word_or_zero (line_multiple g q)) os
 
 -- A row in which nobody has anything.
 abbrev pub NoAmounts : List ℕ → Type 0
@@ -48,9 +48,9 @@ NoAmounts row = (w : ℕ) → slice_index row w ≡ 0
 
 -- Lines to begin with: each lives, is listed, and has one by some number.
 pub record Starts (g : Family) (os : List ℕ) (ss : List Part) : Type 0 where
-  pub living : All (λ (s : Part). alive g s.who ≡ true) ss
-  pub listed : All (λ (s : Part). is_in s.who os ≡ true) ss
-  pub positive : All (λ (s : Part). 0 < s.by) ss
+  pub living : AllByRecursion (λ (s : Part). alive g s.who ≡ true) ss
+  pub listed : AllByRecursion (λ (s : Part). is_in s.who os ≡ true) ss
+  pub positive : AllByRecursion (λ (s : Part). 0 < s.by) ss
 
 -- Downward along such a list, for a number of pieces that all parts divide, everybody has at the end just what all their parts come to; who does not inherit has nothing.
 unfoldable pub PiecesRight : Type 0
@@ -71,7 +71,7 @@ LimitsRight =
 -- Nothing is made on the way down: what all have together never grows, so that nobody has more than all had together at the start.
 unfoldable pub NeverMore : Type 0
 NeverMore =
-    (below : ℕ → List ℕ) (os row : List ℕ) → All (λ q. (q < length row) × All (λ c. c < length row) (below q)) os → sum (handed_down below os row) ≤ sum row
+    (below : ℕ → List ℕ) (os row : List ℕ) → AllByRecursion (λ q. (q < length row) × AllByRecursion (λ c. c < length row) (below q)) os → sum (handed_down below os row) ≤ sum row
 
 -- A row that has something only at places of a list has nothing when these are cleared.
 unfoldable pub ClearedRight : Type 0
@@ -82,5 +82,5 @@ unfoldable pub StartsRight : Type 0
 StartsRight =
     (g : Family) (rk : ℕ → ℕ) (d b : ℕ) → Ranked g rk → 0 < b →
     (starts_parts g (kept_starts g d b) ≡ kept_relatives g d b)
-    × All (λ (s : Part). (alive g s.who ≡ true) × (s.who < length g) × (0 < s.by) × (s.by ≤ 4 * b)) (kept_starts g d b)
+    × AllByRecursion (λ (s : Part). (alive g s.who ≡ true) × (s.who < length g) × (0 < s.by) × (s.by ≤ 4 * b)) (kept_starts g d b)
     × ((n : ℕ) → all_pieces n (kept_starts g d b) * b ≤ n) × (length (kept_starts g d b) ≤ 4)

@@ -1,6 +1,6 @@
 -- Children: who they are, in which order, and how they change with the family. Assumes nothing.
 use Rattle.std.proofs.Common.{◌≡◌, ℕ, zero, suc, ◌+◌, ◌<◌, ◌≤◌, true, ◌⊎◌, List, [], ◌∷◌, ◌++◌, length, sym, refl, ◌∙◌, ⊎_elim, arith}
-use Rattle.std.specs.List.{AllByRecursion as All}
+use Rattle.std.specs.List.{AllByRecursion}
 use Rattle.std.proofs.lemmas.List.{length_push, get_or_push, get_or_append_left, get_or_past}
 use Rattle.std.proofs.ByRecursion.{All-weaker}
 use Rattle.std.proofs.lemmas.Bool.{cases_lt, cond_both}
@@ -10,12 +10,12 @@ use Rattle.law.specs.Family.{Person, person, Family, nobody, is_child, children_
 use Rattle.children.specs.Links.{Ascending}
 
 -- the children in a stretch stand by number, and are no more than the stretch is long
-children_in_from : (f : Family) (p n c : ℕ) → All (λ x. c ≤ x) (children_in f p n c)
+children_in_from : (f : Family) (p n c : ℕ) → AllByRecursion (λ x. c ≤ x) (children_in f p n c)
 unfolding children_in
 children_in_from f p zero c = tt
 children_in_from f p (suc n) c =
     let rest = All-weaker (λ x. suc c ≤ x) (λ x. c ≤ x) (λ x h. omega arith) (children_in f p n (suc c)) (children_in_from f p n (suc c)) in
-    cond_both (is_child f p c) (c ∷ children_in f p n (suc c)) (children_in f p n (suc c)) (All (λ x. c ≤ x)) (λ _. (omega arith, rest)) (λ _. rest)
+    cond_both (is_child f p c) (c ∷ children_in f p n (suc c)) (children_in f p n (suc c)) (AllByRecursion (λ x. c ≤ x)) (λ _. (omega arith, rest)) (λ _. rest)
 
 children_in_ascending : (f : Family) (p n c : ℕ) → Ascending (children_in f p n c)
 unfolding children_in Ascending
@@ -32,7 +32,7 @@ children_in_few f p (suc n) c =
     cond_both (is_child f p c) (c ∷ children_in f p n (suc c)) (children_in f p n (suc c)) (λ cs. length cs ≤ suc n) (λ _. omega arith) (λ _. omega arith)
 
 -- the children of p are there, stand by number, and are no more than persons
-pub children_there : (f : Family) (p : ℕ) → All (λ x. x < length f) (children f p)
+pub children_there : (f : Family) (p : ℕ) → AllByRecursion (λ x. x < length f) (children f p)
 children_there f p = All-weaker (λ x. is_child f p x ≡ true) (λ x. x < length f) (λ x k. child_there f p x k) (children f p) (children_child f p)
 
 pub children_ascending : (f : Family) (p : ℕ) → Ascending (children f p)
@@ -42,7 +42,7 @@ pub length-children : (f : Family) (p : ℕ) → length (children f p) ≤ lengt
 length-children f p = children_in_few f p (length f) 0
 
 -- past the last person nobody has a child, if all parents are there
-none_of : {P : ℕ → Type 0} → ((x : ℕ) → P x → ⊥) → (xs : List ℕ) → All P xs → xs ≡ []
+none_of : {P : ℕ → Type 0} → ((x : ℕ) → P x → ⊥) → (xs : List ℕ) → AllByRecursion P xs → xs ≡ []
 none_of none [] a = refl
 none_of none (x ∷ xs) a = absurd (none x a.0)
 

@@ -1,7 +1,7 @@
 -- Laws of links: of lists, and of the words of a family. Assumes nothing.
 use Rattle.std.proofs.Common.{◌≡◌, ℕ, zero, suc, ◌+◌, ◌*◌, ◌/◌, ◌%◌, ◌<◌, ◌≤◌, true, false, cond, eqb, List, [], ◌∷◌, ◌++◌, length, get_or, set, replicate, sym, refl, ap, ◌∙◌, subst, ⊎_elim, mod-lt, mul_comm, div-lt_iff_lt-mul, arith}
 use native.Mathlib.Nat.{div-add-mod}
-use Rattle.std.specs.List.{AllByRecursion as All}
+use Rattle.std.specs.List.{AllByRecursion}
 use Rattle.std.proofs.lemmas.List.{ext_get_or, get_or_past}
 use Rattle.std.proofs.ByRecursion.{all-has, has_append_right}
 use Rattle.std.proofs.lemmas.Bool.{cases_eq, eq-eqb, ne_eqb, cond-true, cond-false}
@@ -21,7 +21,7 @@ unfolding last_of
 last_some x [] e = omega arith
 last_some x (y ∷ ys) e = last_some y ys e
 
-pub all_last : (P : ℕ → Type 0) (xs : List ℕ) (c : ℕ) → All P xs → last_of xs ≡ suc c → P c
+pub all_last : (P : ℕ → Type 0) (xs : List ℕ) (c : ℕ) → AllByRecursion P xs → last_of xs ≡ suc c → P c
 unfolding last_of
 all_last P [] c a e = absurd (omega arith)
 all_last P (x ∷ []) c a e = let q : x ≡ c = omega arith in subst P q a.0

@@ -1,6 +1,6 @@
 -- Somebody's children as links in words: four for each person, every one of them a function of the family. Assumes nothing: these are definitions.
 use Rattle.std.specs.Prelude.{◌≡◌, ℕ, zero, suc, ◌+◌, ◌-◌, ◌*◌, ◌<◌, Bool, cond, ◌||◌, List, [], ◌∷◌, ◌==◌, slice_index, slice_set}
-use Rattle.std.specs.List.{AllByRecursion as All}
+use Rattle.std.specs.List.{AllByRecursion}
 use Rattle.law.specs.Family.{Person, person, Family, children}
 
 -- A link is 0 where there is nobody, else one more than a number: to the first of a list, to the last, and to who comes behind c.
@@ -20,7 +20,7 @@ successor (x ∷ xs) c = cond (x == c) (first_of xs) (successor xs c)
 -- each number is below those behind it
 unfoldable pub Ascending : List ℕ → Type 0
 Ascending [] = Unit {0}
-Ascending (x ∷ xs) = All (λ y. x < y) xs × Ascending xs
+Ascending (x ∷ xs) = AllByRecursion (λ y. x < y) xs × Ascending xs
 
 -- the child behind c of a parent of c, who is given as 0 or one more than a number
 unfoldable pub behind : Family → ℕ → ℕ → ℕ

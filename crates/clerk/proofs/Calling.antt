@@ -2,7 +2,7 @@
 use Rattle.std.proofs.Common.{◌≡◌, ℕ, suc, ◌+◌, ◌-◌, ◌<◌, ◌≤◌, Bool, true, false, cond, ltb, leb, List, [], ◌∷◌, ◌++◌, map, length, get_or, take, drop, Some, None, Option, sym, refl, ap, ◌∙◌, arith}
 use Rattle.std.proofs.lemmas.List.{drop_more, drop_all}
 use Rattle.std.proofs.lemmas.Bool.{cond-true, cond-false, le-leb, lt-ltb, le-ltb}
-use Rattle.std.specs.List.{AllByRecursion as All}
+use Rattle.std.specs.List.{AllByRecursion}
 use Rattle.rows.specs.Written.{written}
 use Rattle.law.specs.Family.{Person, person, nobody, Family}
 use Rattle.law.specs.Calls.{Call, born, wed, dies, call_number}
@@ -41,7 +41,7 @@ call_fits q out n e =
 some_same : (m n : ℕ) → Some m ≡ Some n → m ≡ n
 some_same m n e = cc
 
-pub call_back : (q : Request) (out later : List ℕ) (size k : ℕ) → length out ≡ 9 → All is_word (call_values (call_of q)) → later ≡ laid_over (call_bytes (call_of q)) out →
+pub call_back : (q : Request) (out later : List ℕ) (size k : ℕ) → length out ≡ 9 → AllByRecursion is_word (call_values (call_of q)) → later ≡ laid_over (call_bytes (call_of q)) out →
     Some size ≡ laid_length (call_bytes (call_of q)) out → k ≡ size → read (take k later) ≡ call_of q
 call_back q out later size k n fit e s h =
     let bs = call_bytes (call_of q) in

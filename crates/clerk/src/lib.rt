@@ -2,7 +2,7 @@
 #![tactic(auto)]
 
 ghost use Rattle.std.specs.Prelude.{◌≡◌, ◌<◌, ◌≤◌, [], ◌++◌, map, length, IfSome, IfOk, Some, string_bytes, OnOk, slice_index_or};
-ghost use Rattle.std.specs.List.{flat_map, AllByRecursion as All};
+ghost use Rattle.std.specs.List.{flat_map, AllByRecursion};
 ghost use Rattle.law.specs.Calls.{born, shares, estate_of};
 ghost use Rattle.law.specs.Promise.{left_by};
 ghost use Rattle.theory.specs.Answers.{answer_to};
@@ -35,7 +35,7 @@ pub enum Refusal {
 
 // Makes a call on a register, and says how many bytes the answer has.
 fn make(register: &mut Register, request: Request) -> usize
-    requires fits { All is_word (call_values (call_of request)) }
+    requires fits { AllByRecursion is_word (call_values (call_of request)) }
     ensures left { memory_of register.new ≡ next (memory_of register.old) (call_of request) }
     ensures said { bytes_in register.new.store.now ≡ written 0 (answer_bytes (says (memory_of register.old) (call_of request))) (bytes_in register.old.store.now) }
     ensures long { result ≡ length (answer_bytes (says (memory_of register.old) (call_of request))) }

@@ -1,6 +1,6 @@
 -- Going down, child by child: how many lines live, what parts come of them, and why it stops. Assumes nothing.
 use Rattle.std.proofs.Common.{◌≡◌, ℕ, ◌+◌, ◌-◌, ◌*◌, ◌<◌, ◌≤◌, Bool, true, false, cond, ◌≢◌, ◌⊎◌, List, [], ◌∷◌, ◌++◌, length, get_or, take, drop, Some, None, filter, sym, refl, ap, ◌∙◌, subst, inl, inr, ⊎_elim, arith}
-use Rattle.std.specs.List.{flat_map, AllByRecursion as All}
+use Rattle.std.specs.List.{flat_map, AllByRecursion}
 use Rattle.std.proofs.lemmas.List.{append_assoc, append-nil, length-append, take-append-drop, drop_more}
 use Rattle.std.proofs.lemmas.List.Elements.{filter_more, filter-append}
 use Rattle.std.proofs.ByRecursion.{All-append}
@@ -63,7 +63,7 @@ line_too_large {f} s p b dead large qs rs =
     row : List Part
     row = line_parts f (length f) p b
 
-    too : (cs : List ℕ) → All (λ c. alive f c ≡ true) cs → lines_below f (length f) p ≡ cs → common_multiple (qs ++ (line_parts f (length f) p b ++ rs)) 1 ≢ 0 → ⊥
+    too : (cs : List ℕ) → AllByRecursion (λ c. alive f c ≡ true) cs → lines_below f (length f) p ≡ cs → common_multiple (qs ++ (line_parts f (length f) p b ++ rs)) 1 ≢ 0 → ⊥
     too [] lives e ne = let z : b * length (filter (alive f) (children f p)) ≡ 0 = ap (λ xs. b * length xs) e ∙ (let w : b * 0 ≡ 0 = omega arith in w) in omega arith
     too (c ∷ cs) lives e ne =
         let k = length (filter (alive f) (children f p)) in
@@ -114,11 +114,11 @@ ready_child ws mem n f rk ps xs spare rest steps who count c at ready e is few c
 -- one line more behind the others
 pub gone_more :
     (mem : List ℕ) (n : ℕ) (f : Family) (ps xs row ys : List Part) (spare rest : List ℕ) (next : ℕ) → ys ≡ xs ++ row → Gone n f spare rest (ps ++ xs) row mem (Some next) →
-    All Small xs → (mem ≡ with_parts n f (ps ++ ys) spare rest) × (next ≡ length ps + length ys) × (next ≤ 4096) × All Small ys
+    AllByRecursion Small xs → (mem ≡ with_parts n f (ps ++ ys) spare rest) × (next ≡ length ps + length ys) × (next ≤ 4096) × AllByRecursion Small ys
 gone_more mem n f ps xs row ys spare rest next e g small =
     let long : length (ps ++ xs) + length row ≡ length ps + length ys = omega (arith, length-append ps xs, ap length e, length-append xs row) in (
       g.2 ∙ ap (λ r. with_parts n f r spare rest) (append_assoc ps xs row ∙ ap (λ r. ps ++ r) (sym e)),
       g.0 ∙ long,
       let few = g.1 in let is = g.0 in omega arith,
-      subst (All Small) (sym e) (All-append Small xs row small g.3),
+      subst (AllByRecursion Small) (sym e) (All-append Small xs row small g.3),
     )

@@ -1,6 +1,6 @@
 -- Going down a line: the row of parts that it leaves in memory, or why it stops. Assumes nothing: these are definitions.
 use Rattle.std.specs.Prelude.{◌≡◌, ℕ, ◌+◌, ◌<◌, ◌≤◌, ◌⊎◌, List, ◌++◌, length, Some, None, filter, Option}
-use Rattle.std.specs.List.{flat_map, AllByRecursion as All}
+use Rattle.std.specs.List.{flat_map, AllByRecursion}
 use Rattle.law.specs.Family.{Family, Part, line_parts}
 use Rattle.law.specs.Calls.{common_multiple}
 use Rattle.theory.specs.Families.{Ranked}
@@ -27,7 +27,7 @@ abbrev pub Gone : ℕ → Family → List ℕ → List ℕ → List Part → Lis
 Gone n f spare rest ps row later None =
     ((4096 < length ps + length row) ⊎ TooLarge row) × ((qs : List Part) × (length qs ≤ 4096) × (later ≡ with_parts n f qs spare rest))
 Gone n f spare rest ps row later (Some k) =
-    (k ≡ length ps + length row) × (length ps + length row ≤ 4096) × (later ≡ with_parts n f (ps ++ row) spare rest) × All Small row
+    (k ≡ length ps + length row) × (length ps + length row ≤ 4096) × (later ≡ with_parts n f (ps ++ row) spare rest) × AllByRecursion Small row
 
 -- What is asked to go down a line: parts in memory, and steps enough for everybody below by their rank.
 pub record Ready (ws : List ℕ) (n : ℕ) (f : Family) (rk : ℕ → ℕ) (ps : List Part) (spare rest : List ℕ) (steps who count : ℕ) : Type 0 where

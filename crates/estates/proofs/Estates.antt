@@ -1,6 +1,6 @@
 -- An estate by the numbers of the passes: by which number it is divided, who the heirs are, and what they have. Assumes nothing.
 use Rattle.std.proofs.Common.{◌≡◌, ℕ, zero, suc, ◌+◌, ◌*◌, ◌<◌, ◌≤◌, Bool, true, false, cond, not, ◌&&◌, eqb, ltb, leb, ◌≢◌, ◌⊎◌, List, [], ◌∷◌, ◌++◌, length, get_or, replicate, Some, None, sum, sym, refl, ap, ◌∙◌, subst, inl, inr, ⊎_elim, arith}
-use Rattle.std.specs.List.{AllByRecursion as All}
+use Rattle.std.specs.List.{AllByRecursion}
 use Rattle.std.proofs.lemmas.List.{length-replicate}
 use Rattle.std.proofs.ByRecursion.{All-weaker}
 use Rattle.std.proofs.lemmas.Bool.{cases_lt, cases_eq, cases_Bool, cond-true, cond-false, lt-leb, lt-ltb, eq-eqb, ne_eqb, eqb-false}
@@ -63,7 +63,7 @@ module _ {f : Family} {rk : ℕ → ℕ} (ranked : Ranked f rk) (d n : ℕ) (roo
       λ i. cond (many i && not (eqb (number i) 0)) (Some (number i)) None
 
   -- the lines that it begins with are of persons within the limit
-  pub starts_within : All (λ (s : Part). s.who < n) (estate_starts f d)
+  pub starts_within : AllByRecursion (λ (s : Part). s.who < n) (estate_starts f d)
   starts_within =
       All-weaker (λ (s : Part). alive f s.who ≡ true) (λ (s : Part). s.who < n) (λ s h. let a = alive_there ranked s.who h in omega arith) (estate_starts f d)
       (estate_passes ranked d).starts.living

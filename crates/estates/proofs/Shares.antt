@@ -1,6 +1,6 @@
 -- From everybody's pieces to shares: a part that stands first, and what the answer says. Assumes nothing.
 use Rattle.std.proofs.Common.{◌≡◌, ℕ, ◌+◌, ◌*◌, ◌/◌, ◌<◌, ◌≤◌, Bool, true, false, cond, eqb, List, [], ◌∷◌, ◌++◌, length, get_or, replicate, Some, None, Option, sym, refl, ap, ◌∙◌, subst, arith}
-use Rattle.std.specs.List.{AllByRecursion as All}
+use Rattle.std.specs.List.{AllByRecursion}
 use Rattle.std.proofs.lemmas.List.{length-replicate}
 use Rattle.std.proofs.lemmas.Bool.{cond-false}
 use Rattle.law.specs.Family.{Family, Part, estate, repeated}
@@ -85,8 +85,8 @@ module _ (f : Family) (n d number : ℕ) (t : DeadThere f n d) (is : Some number
       ap (λ ps. amounts_by n f d (Some number) w + pieces number ps w) e
       ∙ (estate_passes t.formed.ranked d).amounts (replicate n 0) number w (let r = t.room in omega (arith, length-replicate {A = ℕ} n 0)) (replicate_nothing n) (number_divides row number is).0
 
-  pub lead_there : (lead : List Part) → lead ≡ spouse_lead f d → All (λ (q : Part). q.who < length f) lead
+  pub lead_there : (lead : List Part) → lead ≡ spouse_lead f d → AllByRecursion (λ (q : Part). q.who < length f) lead
   lead_there lead e =
-      subst (All (λ (q : Part). q.who < length f)) (sym e)
+      subst (AllByRecursion (λ (q : Part). q.who < length f)) (sym e)
       (all_both_rows (λ (q : Part). q.who < length f) (spouse_lead f d) (repeated (relatives_times f d) (starts_parts f (estate_starts f d)))
-      (subst (All (λ (q : Part). q.who < length f)) (sym (estate_passes t.formed.ranked d).whole) (row_sound f n d t).there)).0
+      (subst (AllByRecursion (λ (q : Part). q.who < length f)) (sym (estate_passes t.formed.ranked d).whole) (row_sound f n d t).there)).0

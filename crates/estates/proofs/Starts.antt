@@ -1,6 +1,6 @@
 -- Lines to begin with, one by one: listed, measured, and given their pieces. Assumes nothing.
 use Rattle.std.proofs.Common.{◌≡◌, ℕ, ◌+◌, ◌*◌, ◌/◌, ◌<◌, ◌≤◌, true, List, [], ◌∷◌, ◌++◌, map, length, get_or, take, drop, set, sum_by, sum, sym, refl, ap, ◌∙◌, subst, arith}
-use Rattle.std.specs.List.{AllByRecursion as All}
+use Rattle.std.specs.List.{AllByRecursion}
 use Rattle.std.proofs.lemmas.List.{take_more, drop_more, drop_all, map-append, get_or-set_same, length-set}
 use Rattle.std.proofs.ByRecursion.{All-weaker, All-drop}
 use Rattle.std.proofs.lemmas.List.Sums.{sum_by_more}
@@ -60,7 +60,7 @@ unfolding started
 started_end times n ss i row h = ap (λ qs. started times n qs row) (drop_all i ss h)
 
 pub start_fits :
-    (times n : ℕ) (ss : List Part) (i : ℕ) (s : Part) (row final : List ℕ) → All (λ (q : Part). q.who < length row) ss → s.who < length row →
+    (times n : ℕ) (ss : List Part) (i : ℕ) (s : Part) (row final : List ℕ) → AllByRecursion (λ (q : Part). q.who < length row) ss → s.who < length row →
     started times n (drop (i + 1) ss) (set row s.who (get_or row s.who 0 + times * (n / s.by))) ≡ final → sum final < 4294967296 → get_or row s.who 0 + times * (n / s.by) < 4294967296
 start_fits times n ss i s row final there h is small =
     let v = get_or row s.who 0 + times * (n / s.by) in

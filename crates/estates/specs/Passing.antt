@@ -1,6 +1,6 @@
 -- An estate by passes in memory: what is listed, what is divided, and what each pass leaves. Assumes nothing: these are definitions.
 use Rattle.std.specs.Prelude.{◌≡◌, ℕ, ◌+◌, ◌*◌, ◌<◌, ◌≤◌, true, cond, List, [], length, replicate, Some, None, Option, slice_index}
-use Rattle.std.specs.List.{AllByRecursion as All}
+use Rattle.std.specs.List.{AllByRecursion}
 use Rattle.law.specs.Family.{Family, Part}
 use Rattle.law.specs.Calls.{shares}
 use Rattle.theory.specs.Shares.{shares_of}
@@ -33,7 +33,7 @@ pub record ToList (ws : List ℕ) (n : ℕ) (f : Family) (rk : ℕ → ℕ) (ss 
   pub rows : Rowed ws n f ss (listed_rows n f []) spare rest
   pub many : length ss ≡ count
   pub ranked : Ranked f rk
-  pub living : All (λ (s : Part). alive f s.who ≡ true) ss
+  pub living : AllByRecursion (λ (s : Part). alive f s.who ≡ true) ss
 
 -- Lines were listed, and how many persons these are is said.
 pub record LinesListed (n : ℕ) (f : Family) (ss : List Part) (spare rest later : List ℕ) (r : ℕ) : Type 0 where

@@ -2,7 +2,7 @@
 #![tactic(auto)]
 
 ghost use Rattle.std.specs.Prelude.{◌≡◌, ℕ, ◌+◌, ◌*◌, ◌<◌, ◌≤◌, not, ◌&&◌, List, length, get_or, IfSome, if◌then◌else◌, Some, None, sum, MatchOption, ◌==◌, nat_le, slice_index_or};
-ghost use Rattle.std.specs.List.{AllByRecursion as All};
+ghost use Rattle.std.specs.List.{AllByRecursion};
 ghost use Rattle.law.specs.Family.{Family, Part as LawPart};
 ghost use Rattle.law.specs.Calls.{common_multiple, pieces};
 ghost use Rattle.theory.specs.Shares.{shares_from};
@@ -68,7 +68,7 @@ fn measure(memory: &[u32], first: u32, count: u32) -> Line
     requires room { Roomy memory.now }
     requires few { count ≤ 4096 }
     ensures value { (n : ℕ) (f : Family) (ss : List LawPart) (rows : Rows) (spare rest : List ℕ) → Rowed memory.now n f ss rows spare rest → length ss ≡ count
-        → All (λ s. s.who < n) ss → (result.parts ≡ few (starts_count rows.counts ss)) × (result.multiple ≡ common_multiple (starts_numbers rows.multiples ss) first) }
+        → AllByRecursion (λ s. s.who < n) ss → (result.parts ≡ few (starts_count rows.counts ss)) × (result.multiple ≡ common_multiple (starts_numbers rows.multiples ss) first) }
 {
     let mut all = Line {
         parts: 0,
@@ -103,7 +103,7 @@ fn give(memory: &mut [u32], times: u32, whole: u32, count: u32)
     ensures limit { limit_in memory.new ≡ limit_in memory.old }
     ensures count { count_in memory.new ≡ count_in memory.old }
     ensures given { (n : ℕ) (f : Family) (ss : List LawPart) (rows : Rows) (spare rest : List ℕ) → Rowed memory.old n f ss rows spare rest → length ss ≡ count
-        → All (λ s. s.who < n) ss → sum (started times whole ss rows.pieces) < 4294967296
+        → AllByRecursion (λ s. s.who < n) ss → sum (started times whole ss rows.pieces) < 4294967296
         → Rowed memory.new n f ss (with_pieces rows (started times whole ss rows.pieces)) spare rest }
 {
     for i in 0..count {
@@ -176,7 +176,7 @@ fn divide_listed(memory: &mut [u32], beside: Beside, count: u32) -> Option<u32>
 fn add_first(work: &mut [u32], persons: u32, lead: Option<Part>, number: u32)
     requires few { persons ≤ 4096 }
     requires room { 8320 + persons ≤ length work.old }
-    ensures left { (m : ℕ) (ps : List LawPart) (amounts all : ℕ → ℕ) (rest : List ℕ) → Held m ps amounts rest persons work.old → All (λ q. q.who < persons) (lead_parts lead)
+    ensures left { (m : ℕ) (ps : List LawPart) (amounts all : ℕ → ℕ) (rest : List ℕ) → Held m ps amounts rest persons work.old → AllByRecursion (λ q. q.who < persons) (lead_parts lead)
         → ((w : ℕ) → amounts w + pieces number (lead_parts lead) w ≡ all w) → ((w : ℕ) → all w < 4294967296) → Held m ps all rest persons work.new }
 {
     if let Some(part) = lead {
@@ -195,7 +195,7 @@ fn write_out(
     requires few { persons ≤ 4096 }
     requires room { 8320 + persons ≤ length work.old }
     requires bytes { 5 + 20 * persons ≤ length answer.old }
-    ensures shares { (m : ℕ) (ps : List LawPart) (amounts all : ℕ → ℕ) (rest : List ℕ) → Held m ps amounts rest persons work.old → All (λ q. q.who < persons) (lead_parts lead)
+    ensures shares { (m : ℕ) (ps : List LawPart) (amounts all : ℕ → ℕ) (rest : List ℕ) → Held m ps amounts rest persons work.old → AllByRecursion (λ q. q.who < persons) (lead_parts lead)
         → ((w : ℕ) → amounts w + pieces number (lead_parts lead) w ≡ all w) → ((w : ℕ) → all w < 4294967296) → ((w : ℕ) → persons ≤ w → all w ≡ 0)
         → WrittenOut m ps rest persons (shares_from number all 0 persons) work.new answer.old answer.new result }
 {

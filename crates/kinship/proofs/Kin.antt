@@ -1,6 +1,6 @@
 -- The nearest order of which somebody is, and what follows for who has no share. Assumes nothing.
 use Rattle.std.proofs.Common.{◌≡◌, ℕ, zero, suc, ◌+◌, ◌<◌, ◌≤◌, Bool, true, false, cond, not, eqb, ltb, ◌≢◌, ◌⊎◌, List, [], ◌∷◌, ◌++◌, map, length, filter, sym, refl, ap, ◌∙◌, subst, inl, inr, ⊎_elim, arith}
-use Rattle.std.specs.List.{flat_map, AllByRecursion as All}
+use Rattle.std.specs.List.{flat_map, AllByRecursion}
 use Rattle.std.proofs.lemmas.List.{append-nil, length-append}
 use Rattle.std.proofs.lemmas.List.Elements.{filter-append}
 use Rattle.std.proofs.ByRecursion.{all_kept_by, kept_by_passes}
@@ -136,7 +136,7 @@ module _ {f : Family} {rk : ℕ → ℕ} (r : Ranked f rk) (d w : ℕ) (other : 
       (all_both (λ x. is_child f d x ≡ true) (λ x. s x ≡ true) (λ x. OfLine f d w) (λ x k e. line_step f d x w k (down x e)) (filter s (children f d))
       (all_kept_by s (λ x. is_child f d x ≡ true) (children f d) (children_child f d)) (kept_by_passes s (children f d)))
     where
-      go : (xs : List ℕ) → 0 < length xs → All (λ x. OfLine f d w) xs → OfLine f d w
+      go : (xs : List ℕ) → 0 < length xs → AllByRecursion (λ x. OfLine f d w) xs → OfLine f d w
       go [] m a = absurd (omega arith)
       go (x ∷ xs) m a = a.0
 
@@ -204,19 +204,19 @@ module _ {f : Family} {rk : ℕ → ℕ} (r : Ranked f rk) (d w : ℕ) (other : 
         (kinds n (near.of l))
 
     module _ (none : NoWay f d w) where
-      before_all : (o : ℕ) → order f d ≡ o → o ≡ n → n ≤ 3 → All (λ p. (xs : List ℕ) → descends_by f p xs w → stood_before f d p xs) (starts f d o)
+      before_all : (o : ℕ) → order f d ≡ o → o ≡ n → n ≤ 3 → AllByRecursion (λ p. (xs : List ℕ) → descends_by f p xs w → stood_before f d p xs) (starts f d o)
       before_all o e same l =
           let no = ends_not w _ none in
           ⊎_elim
           (λ (q : (n ≡ 1) × OfLine f d w).
-          subst (λ z. All (λ p. (xs : List ℕ) → descends_by f p xs w → stood_before f d p xs) (starts f d z)) (sym (same ∙ q.0)) (first_stood r d w lives other no (e ∙ same ∙ q.0), tt))
+          subst (λ z. AllByRecursion (λ p. (xs : List ℕ) → descends_by f p xs w → stood_before f d p xs) (starts f d z)) (sym (same ∙ q.0)) (first_stood r d w lives other no (e ∙ same ∙ q.0), tt))
           (λ q.
           ⊎_elim
           (λ (u : (n ≡ 2) × OfSome f (parents f d) w).
-          subst (λ z. All (λ p. (xs : List ℕ) → descends_by f p xs w → stood_before f d p xs) (starts f d z)) (sym (same ∙ u.0))
+          subst (λ z. AllByRecursion (λ p. (xs : List ℕ) → descends_by f p xs w → stood_before f d p xs) (starts f d z)) (sym (same ∙ u.0))
           (all_in (λ p. (xs : List ℕ) → descends_by f p xs w → stood_before f d p xs) (parents f d) (second_stood r d w lives other no (apart (omega (arith, u.0))) (e ∙ same ∙ u.0))))
           (λ (u : (n ≡ 3) × OfSome f (flat_map (λ p. parents f p) (parents f d)) w).
-          subst (λ z. All (λ p. (xs : List ℕ) → descends_by f p xs w → stood_before f d p xs) (starts f d z)) (sym (same ∙ u.0))
+          subst (λ z. AllByRecursion (λ p. (xs : List ℕ) → descends_by f p xs w → stood_before f d p xs) (starts f d z)) (sym (same ∙ u.0))
           (all_in (λ p. (xs : List ℕ) → descends_by f p xs w → stood_before f d p xs) (flat_map (λ p. parents f p) (parents f d))
           (third_stood r d w lives other no (apart (omega (arith, u.0))) (e ∙ same ∙ u.0))))
           q)

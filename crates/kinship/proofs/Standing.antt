@@ -1,6 +1,6 @@
 -- Of which orders somebody is, and that somebody whom no one stands before has a way. Assumes nothing.
 use Rattle.std.proofs.Common.{◌≡◌, ℕ, zero, suc, ◌+◌, ◌-◌, ◌*◌, ◌<◌, ◌≤◌, Bool, true, false, cond, not, ◌&&◌, ◌||◌, eqb, ◌≢◌, ◌⊎◌, List, [], ◌∷◌, ◌++◌, map, length, filter, sym, refl, ap, ◌∙◌, subst, inl, inr, ⊎_elim, arith}
-use Rattle.std.specs.List.{flat_map, AllByRecursion as All}
+use Rattle.std.specs.List.{flat_map, AllByRecursion}
 use Rattle.std.proofs.lemmas.List.{append-nil, length-append}
 use Rattle.std.proofs.lemmas.List.Elements.{filter-append}
 use Rattle.std.proofs.lemmas.Bool.{both_ways, cases_Bool, cases_eq, eqb-true, eqb-false, eq-eqb, ne_eqb, not_from_false, cond-true, cond-false, cond_both}
@@ -47,7 +47,7 @@ in_joined g x (y ∷ ys) h = ⊎_elim (λ k. (y, inl refl, k)) (λ k. let r = in
     split [] k = inr k
     split (z ∷ zs) k = ⊎_elim (λ e. inl (inl e)) (λ m. ⊎_elim (λ n. inl (inr n)) (λ n. inr n) (split zs m)) k
 
-pub all_in : (P : ℕ → Type 0) (xs : List ℕ) → ((x : ℕ) → In x xs → P x) → All P xs
+pub all_in : (P : ℕ → Type 0) (xs : List ℕ) → ((x : ℕ) → In x xs → P x) → AllByRecursion P xs
 all_in P [] h = tt
 all_in P (x ∷ xs) h = (h x (inl refl), all_in P xs (λ y k. h y (inr k)))
 
@@ -70,7 +70,7 @@ abbrev pub Ends : ℕ → List Way → Type 0
 Ends w [] = ⊥
 Ends w (x ∷ xs) = (x.who ≡ w) ⊎ Ends w xs
 
-pub ends_not : (w : ℕ) (xs : List Way) → All (λ (x : Way). x.who ≢ w) xs → Ends w xs → ⊥
+pub ends_not : (w : ℕ) (xs : List Way) → AllByRecursion (λ (x : Way). x.who ≢ w) xs → Ends w xs → ⊥
 ends_not w [] a h = h
 ends_not w (x ∷ xs) a h = ⊎_elim (λ e. a.0 e) (λ k. ends_not w xs a.1 k) h
 

@@ -1,6 +1,6 @@
 -- Why somebody has no share of an estate. Assumes nothing: these are definitions.
 use Rattle.std.specs.Prelude.{◌≡◌, ℕ, ◌<◌, ◌≤◌, Bool, true, false, cond, ◌≢◌, ◌⊎◌, List, [], ◌∷◌, length, filter, ◌==◌, nat_lt}
-use Rattle.std.specs.List.{flat_map, AllByRecursion as All}
+use Rattle.std.specs.List.{flat_map, AllByRecursion}
 use Rattle.law.specs.Family.{Family, person, children, parents, order}
 use Rattle.law.specs.Promise.{descends_by, OfLine}
 use Rattle.ways.specs.Ways.{Way, stands, kin_ways}
@@ -25,7 +25,7 @@ stood_before f d p (x ∷ xs) = (stands f d p ≡ true) ⊎ stood_before f d x x
 -- On every line of the order that inherits which leads to w, a living forebear stands before w; and there is such a line.
 pub record ForebearBefore (f : Family) (d w : ℕ) : Type 0 where
   pub of_line : OfSome f (starts f d (order f d)) w
-  pub before : All (λ p. (xs : List ℕ) → descends_by f p xs w → stood_before f d p xs) (starts f d (order f d))
+  pub before : AllByRecursion (λ p. (xs : List ℕ) → descends_by f p xs w → stood_before f d p xs) (starts f d (order f d))
 
 -- w is of a line of a farther order, and of none of the order that inherits.
 pub record NearerInherits (f : Family) (d w : ℕ) : Type 0 where
@@ -46,7 +46,7 @@ CauseHolds f d w NotOfFamily = (o : ℕ) → OfSome f (starts f d o) w → ⊥
 
 -- no way of the relatives ends at w
 abbrev pub NoWay : Family → ℕ → ℕ → Type 0
-NoWay f d w = All (λ (x : Way). x.who ≢ w) (kin_ways f d)
+NoWay f d w = AllByRecursion (λ (x : Way). x.who ≢ w) (kin_ways f d)
 
 -- the nearest order of which a line is in a set, 4 where there is none
 abbrev pub order_in : (ℕ → Bool) → Family → ℕ → ℕ

@@ -1,6 +1,6 @@
 -- Ways are chains, all of them, each once. Assumes nothing.
 use Rattle.std.proofs.Common.{◌≡◌, ℕ, zero, suc, ◌+◌, ◌*◌, ◌<◌, ◌≤◌, Bool, true, false, cond, not, ◌&&◌, eqb, ◌≢◌, ◌⊎◌, List, [], ◌∷◌, ◌++◌, length, filter, sym, refl, ap, ◌∙◌, subst, inl, inr, ⊎_elim, arith}
-use Rattle.std.specs.List.{flat_map, AllByRecursion as All}
+use Rattle.std.specs.List.{flat_map, AllByRecursion}
 use Rattle.std.proofs.lemmas.List.{append_assoc, append-nil}
 use Rattle.std.proofs.ByRecursion.{All-weaker, All-append}
 use Rattle.std.proofs.lemmas.Bool.{both_ways, cases_Bool, and_parts, not-true, eqb-false, ne_eqb, not_from_false, cond-true, cond-false, cond_both}
@@ -16,7 +16,7 @@ use Rattle.reasons.proofs.Orders.{ways_first, ways_second, ways_third}
 use Rattle.kinship.proofs.Standing.{in_left, in_right, in_joined, in_kept, in_some, child_in, lives_up}
 use Rattle.lineage.specs.Chains.{leads, On, Listed, LeadsFrom, Once, grandparents, WaysLead, AllListed, WaysAreChains, ChainsAreWays, EachOnce}
 
-all_on : (P : ℕ → Type 0) (xs : List ℕ) → ((x : ℕ) → On x xs → P x) → All P xs
+all_on : (P : ℕ → Type 0) (xs : List ℕ) → ((x : ℕ) → On x xs → P x) → AllByRecursion P xs
 all_on P [] h = tt
 all_on P (x ∷ xs) h = (h x (inl refl), all_on P xs (λ y k. h y (inr k)))
 
@@ -37,15 +37,15 @@ joined_on g x q (y ∷ ys) h k =
 abbrev Down : Family → ℕ → List ℕ → ℕ → Way → Type 0
 Down f d xs p v = (ys : List ℕ) × (v.line ≡ xs ++ ys) × leads f d p ys v.who
 
-ways_down : (n : ℕ) (f : Family) (d : ℕ) (xs : List ℕ) (p b : ℕ) → All (Down f d xs p) (line_ways_in n f d xs p b)
+ways_down : (n : ℕ) (f : Family) (d : ℕ) (xs : List ℕ) (p b : ℕ) → AllByRecursion (Down f d xs p) (line_ways_in n f d xs p b)
 unfolding line_ways_in leads
 ways_down zero f d xs p b = tt
 ways_down (suc n) f d xs p b =
-    cond_both (stands f d p) (record { line = xs; who = p; by = b } ∷ []) (flat_map (λ c. line_ways_in n f d (xs ++ (c ∷ [])) c each) (living_lines f d (children f p))) (All (Down f d xs p))
+    cond_both (stands f d p) (record { line = xs; who = p; by = b } ∷ []) (flat_map (λ c. line_ways_in n f d (xs ++ (c ∷ [])) c each) (living_lines f d (children f p))) (AllByRecursion (Down f d xs p))
     (λ e. (([], sym (append-nil xs), (refl, e)), tt))
     (λ e.
     joined_all (Down f d xs p) (λ c. line_ways_in n f d (xs ++ (c ∷ [])) c each) (living_lines f d (children f p))
-    (All-weaker (λ c. is_child f p c ≡ true) (λ c. All (Down f d xs p) (line_ways_in n f d (xs ++ (c ∷ [])) c each))
+    (All-weaker (λ c. is_child f p c ≡ true) (λ c. AllByRecursion (Down f d xs p) (line_ways_in n f d (xs ++ (c ∷ [])) c each))
     (λ c k.
     All-weaker (Down f d (xs ++ (c ∷ [])) c) (Down f d xs p) (λ v t. (c ∷ t.0, t.1 ∙ append_assoc xs (c ∷ []) t.0, (e, k, t.2))) (line_ways_in n f d (xs ++ (c ∷ [])) c each)
     (ways_down n f d (xs ++ (c ∷ [])) c each))
@@ -54,10 +54,10 @@ ways_down (suc n) f d xs p b =
     each : ℕ
     each = b * length (living_lines f d (children f p))
 
-heads_lead : (f : Family) (d : ℕ) (ps qs : List ℕ) (b : ℕ) → ((p : ℕ) → On p ps → On p qs) → All (LeadsFrom f d qs) (heads_ways f d ps b)
+heads_lead : (f : Family) (d : ℕ) (ps qs : List ℕ) (b : ℕ) → ((p : ℕ) → On p ps → On p qs) → AllByRecursion (LeadsFrom f d qs) (heads_ways f d ps b)
 heads_lead f d ps qs b within =
     joined_all (LeadsFrom f d qs) (λ p. line_ways f d (p ∷ []) p b) ps
-    (all_on (λ p. All (LeadsFrom f d qs) (line_ways f d (p ∷ []) p b)) ps
+    (all_on (λ p. AllByRecursion (LeadsFrom f d qs) (line_ways f d (p ∷ []) p b)) ps
     (λ p i.
     All-weaker (Down f d (p ∷ []) p) (LeadsFrom f d qs) (λ v t. (p, t.0, within p i, t.1, t.2)) (line_ways f d (p ∷ []) p b) (ways_down (suc (length f)) f d (p ∷ []) p b)))
 
@@ -66,16 +66,16 @@ unfolding WaysAreChains
 ways_are_chains f d b =
     record {
       first = λ o.
-          subst (All (λ (v : Way). leads f d d v.line v.who)) (sym (ways_first f d b o))
+          subst (AllByRecursion (λ (v : Way). leads f d d v.line v.who)) (sym (ways_first f d b o))
           (All-weaker (Down f d [] d) (λ (v : Way). leads f d d v.line v.who) (λ v t. subst (λ xs. leads f d d xs v.who) (sym t.1) t.2) (first_ways f d b)
           (ways_down (suc (length f)) f d [] d b));
       second = λ o.
-          subst (All (LeadsFrom f d (parents f d))) (sym (ways_second f d b o))
+          subst (AllByRecursion (LeadsFrom f d (parents f d))) (sym (ways_second f d b o))
           (heads_lead f d (living_lines f d (parents f d)) (parents f d) (b * length (living_lines f d (parents f d))) (λ p i. kept_on (line_lives f d) p (parents f d) i));
       third = λ o.
-          subst (All (LeadsFrom f d (grandparents f d))) (sym (ways_third f d b o))
+          subst (AllByRecursion (LeadsFrom f d (grandparents f d))) (sym (ways_third f d b o))
           (joined_all (LeadsFrom f d (grandparents f d)) (λ q. couple_ways f d (parents f q) (b * length (living_sides f d))) (living_sides f d)
-          (all_on (λ q. All (LeadsFrom f d (grandparents f d)) (couple_ways f d (parents f q) (b * length (living_sides f d)))) (living_sides f d)
+          (all_on (λ q. AllByRecursion (LeadsFrom f d (grandparents f d)) (couple_ways f d (parents f q) (b * length (living_sides f d)))) (living_sides f d)
           (λ q i.
           heads_lead f d (living_lines f d (parents f q)) (grandparents f d) (b * length (living_sides f d) * length (living_lines f d (parents f q)))
           (λ p k. joined_on (λ r. parents f r) p q (parents f d) (kept_on (λ r. side_lives f d r) q (parents f d) i) (kept_on (line_lives f d) p (parents f q) k)))));
@@ -169,38 +169,38 @@ chains_are_ways f rk d b s =
 -- rows without anybody twice
 abbrev Apart : List ℕ → Type 0
 Apart [] = Unit {0}
-Apart (x ∷ xs) = All (λ y. x ≢ y) xs × Apart xs
+Apart (x ∷ xs) = AllByRecursion (λ y. x ≢ y) xs × Apart xs
 
-all_kept : (s : ℕ → Bool) (P : ℕ → Type 0) (xs : List ℕ) → All P xs → All P (filter s xs)
+all_kept : (s : ℕ → Bool) (P : ℕ → Type 0) (xs : List ℕ) → AllByRecursion P xs → AllByRecursion P (filter s xs)
 all_kept s P [] a = tt
-all_kept s P (x ∷ xs) a = cond_both (s x) (x ∷ filter s xs) (filter s xs) (All P) (λ _. (a.0, all_kept s P xs a.1)) (λ _. all_kept s P xs a.1)
+all_kept s P (x ∷ xs) a = cond_both (s x) (x ∷ filter s xs) (filter s xs) (AllByRecursion P) (λ _. (a.0, all_kept s P xs a.1)) (λ _. all_kept s P xs a.1)
 
 kept_apart : (s : ℕ → Bool) (xs : List ℕ) → Apart xs → Apart (filter s xs)
 kept_apart s [] a = tt
 kept_apart s (x ∷ xs) a =
     cond_both (s x) (x ∷ filter s xs) (filter s xs) Apart (λ _. (all_kept s (λ y. x ≢ y) xs a.0, kept_apart s xs a.1)) (λ _. kept_apart s xs a.1)
 
-children_apart : (f : Family) (p n c : ℕ) → All (λ y. c ≤ y) (children_in f p n c) × Apart (children_in f p n c)
+children_apart : (f : Family) (p n c : ℕ) → AllByRecursion (λ y. c ≤ y) (children_in f p n c) × Apart (children_in f p n c)
 unfolding children_in
 children_apart f p zero c = (tt, tt)
 children_apart f p (suc n) c =
     let ih = children_apart f p n (suc c) in
     let more = All-weaker (λ y. suc c ≤ y) (λ y. c ≤ y) (λ y l. omega arith) (children_in f p n (suc c)) ih.0 in
-    cond_both (is_child f p c) (c ∷ children_in f p n (suc c)) (children_in f p n (suc c)) (λ xs. All (λ y. c ≤ y) xs × Apart xs)
+    cond_both (is_child f p c) (c ∷ children_in f p n (suc c)) (children_in f p n (suc c)) (λ xs. AllByRecursion (λ y. c ≤ y) xs × Apart xs)
     (λ _. ((omega arith, more), (All-weaker (λ y. suc c ≤ y) (λ y. c ≢ y) (λ y l e. omega arith) (children_in f p n (suc c)) ih.0, ih.1))) (λ _. (more, ih.1))
 
-once_append : (us vs : List Way) → Once us → Once vs → All (λ (u : Way). All (λ (v : Way). u.line ≢ v.line) vs) us → Once (us ++ vs)
+once_append : (us vs : List Way) → Once us → Once vs → AllByRecursion (λ (u : Way). AllByRecursion (λ (v : Way). u.line ≢ v.line) vs) us → Once (us ++ vs)
 once_append [] vs a b c = b
 once_append (u ∷ us) vs a b c = (All-append (λ (v : Way). u.line ≢ v.line) us vs a.0 c.0, once_append us vs a.1 b c.1)
 
-module _ (g : ℕ → List Way) (once : (c : ℕ) → Once (g c)) (differ : (c e : ℕ) → c ≢ e → All (λ (u : Way). All (λ (v : Way). u.line ≢ v.line) (g e)) (g c)) where
-  one_more : (c : ℕ) (cs : List ℕ) → All (λ y. c ≢ y) cs → All (λ (u : Way). All (λ (v : Way). u.line ≢ v.line) (flat_map g cs)) (g c)
-  one_more c [] a = all_any (λ (u : Way). All (λ (v : Way). u.line ≢ v.line) []) (λ u. tt) (g c)
+module _ (g : ℕ → List Way) (once : (c : ℕ) → Once (g c)) (differ : (c e : ℕ) → c ≢ e → AllByRecursion (λ (u : Way). AllByRecursion (λ (v : Way). u.line ≢ v.line) (g e)) (g c)) where
+  one_more : (c : ℕ) (cs : List ℕ) → AllByRecursion (λ y. c ≢ y) cs → AllByRecursion (λ (u : Way). AllByRecursion (λ (v : Way). u.line ≢ v.line) (flat_map g cs)) (g c)
+  one_more c [] a = all_any (λ (u : Way). AllByRecursion (λ (v : Way). u.line ≢ v.line) []) (λ u. tt) (g c)
   one_more c (e ∷ es) a =
-      all_two (λ (u : Way). All (λ (v : Way). u.line ≢ v.line) (g e)) (λ (u : Way). All (λ (v : Way). u.line ≢ v.line) (flat_map g es))
-      (λ (u : Way). All (λ (v : Way). u.line ≢ v.line) (g e ++ flat_map g es)) (λ u x y. All-append (λ (v : Way). u.line ≢ v.line) (g e) (flat_map g es) x y) (g c) (differ c e a.0) (one_more c es a.1)
+      all_two (λ (u : Way). AllByRecursion (λ (v : Way). u.line ≢ v.line) (g e)) (λ (u : Way). AllByRecursion (λ (v : Way). u.line ≢ v.line) (flat_map g es))
+      (λ (u : Way). AllByRecursion (λ (v : Way). u.line ≢ v.line) (g e ++ flat_map g es)) (λ u x y. All-append (λ (v : Way). u.line ≢ v.line) (g e) (flat_map g es) x y) (g c) (differ c e a.0) (one_more c es a.1)
     where
-      all_two : (P Q R : Way → Type 0) → ((u : Way) → P u → Q u → R u) → (us : List Way) → All P us → All Q us → All R us
+      all_two : (P Q R : Way → Type 0) → ((u : Way) → P u → Q u → R u) → (us : List Way) → AllByRecursion P us → AllByRecursion Q us → AllByRecursion R us
       all_two P Q R h [] x y = tt
       all_two P Q R h (u ∷ us) x y = (h u x.0 y.0, all_two P Q R h us x.1 y.1)
 
@@ -214,9 +214,9 @@ same_next [] ys zs c e h = cc
 same_next (x ∷ xs) ys zs c e h = same_next xs ys zs c e (cc)
 
 lines_differ : (n : ℕ) (f : Family) (d b : ℕ) (xs : List ℕ) (c e : ℕ) → c ≢ e →
-    All (λ (u : Way). All (λ (v : Way). u.line ≢ v.line) (line_ways_in n f d (xs ++ (e ∷ [])) e b)) (line_ways_in n f d (xs ++ (c ∷ [])) c b)
+    AllByRecursion (λ (u : Way). AllByRecursion (λ (v : Way). u.line ≢ v.line) (line_ways_in n f d (xs ++ (e ∷ [])) e b)) (line_ways_in n f d (xs ++ (c ∷ [])) c b)
 lines_differ n f d b xs c e unlike =
-    All-weaker (Down f d (xs ++ (c ∷ [])) c) (λ (u : Way). All (λ (v : Way). u.line ≢ v.line) (line_ways_in n f d (xs ++ (e ∷ [])) e b))
+    All-weaker (Down f d (xs ++ (c ∷ [])) c) (λ (u : Way). AllByRecursion (λ (v : Way). u.line ≢ v.line) (line_ways_in n f d (xs ++ (e ∷ [])) e b))
     (λ u t.
     All-weaker (Down f d (xs ++ (e ∷ [])) e) (λ (v : Way). u.line ≢ v.line) (λ v r q. unlike (same_next xs t.0 r.0 c e (sym t.1 ∙ q ∙ r.1))) (line_ways_in n f d (xs ++ (e ∷ [])) e b)
     (ways_down n f d (xs ++ (e ∷ [])) e b))

@@ -1,6 +1,6 @@
 -- The ways of an estate as chains of parent and child. Each record is a statement whose proof is owed wherever a contract names it. Assumes nothing.
 use Rattle.std.specs.Prelude.{◌≡◌, ℕ, true, false, ◌≢◌, ◌⊎◌, List, [], ◌∷◌}
-use Rattle.std.specs.List.{flat_map, AllByRecursion as All}
+use Rattle.std.specs.List.{flat_map, AllByRecursion}
 use Rattle.law.specs.Family.{Family, person, is_child, parents, order}
 use Rattle.theory.specs.Families.{Ranked}
 use Rattle.ways.specs.Ways.{Way, stands, relatives_ways}
@@ -27,7 +27,7 @@ LeadsFrom f d ps v = (p : ℕ) × (xs : List ℕ) × On p ps × (v.line ≡ p �
 -- no two ways have the same persons
 abbrev pub Once : List Way → Type 0
 Once [] = Unit {0}
-Once (v ∷ vs) = All (λ (u : Way). v.line ≢ u.line) vs × Once vs
+Once (v ∷ vs) = AllByRecursion (λ (u : Way). v.line ≢ u.line) vs × Once vs
 
 abbrev pub grandparents : Family → ℕ → List ℕ
 grandparents f d = flat_map (λ p. parents f p) (parents f d)
@@ -36,9 +36,9 @@ grandparents f d = flat_map (λ p. parents f p) (parents f d)
 -- In the first order each stands once, whatever the family is like, and in the second, unless the mother is the father.
 -- In the third somebody who is a grandparent on both sides begins a way on each.
 pub record WaysLead (f : Family) (d b : ℕ) : Type 0 where
-  pub first : order f d ≡ 1 → All (λ (v : Way). leads f d d v.line v.who) (relatives_ways f d b)
-  pub second : order f d ≡ 2 → All (LeadsFrom f d (parents f d)) (relatives_ways f d b)
-  pub third : order f d ≡ 3 → All (LeadsFrom f d (grandparents f d)) (relatives_ways f d b)
+  pub first : order f d ≡ 1 → AllByRecursion (λ (v : Way). leads f d d v.line v.who) (relatives_ways f d b)
+  pub second : order f d ≡ 2 → AllByRecursion (LeadsFrom f d (parents f d)) (relatives_ways f d b)
+  pub third : order f d ≡ 3 → AllByRecursion (LeadsFrom f d (grandparents f d)) (relatives_ways f d b)
 
 pub record AllListed (f : Family) (d b : ℕ) : Type 0 where
   pub first : order f d ≡ 1 → (xs : List ℕ) (w : ℕ) → leads f d d xs w → Listed xs w (relatives_ways f d b)

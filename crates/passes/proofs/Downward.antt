@@ -1,6 +1,6 @@
 -- Laws of going down a list and of leaving it. Assumes nothing.
 use Rattle.std.proofs.Common.{◌≡◌, ℕ, zero, suc, ◌+◌, ◌-◌, ◌<◌, ◌≤◌, Bool, false, ◌≢◌, List, [], ◌∷◌, length, get_or, drop, set, replicate, sum, sym, refl, ap, ◌∙◌, subst, arith}
-use Rattle.std.specs.List.{AllByRecursion as All}
+use Rattle.std.specs.List.{AllByRecursion}
 use Rattle.std.proofs.lemmas.List.{drop_more, drop_all, get_or-set_same, get_or-set_other, set-set, set-get_or, length-replicate}
 use Rattle.std.proofs.ByRecursion.{All-weaker, All-drop}
 use Rattle.law.specs.Family.{Family}

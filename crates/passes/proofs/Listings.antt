@@ -1,6 +1,6 @@
 -- Laws of listing: who is listed by the row of counts, the rows with one more in front, and one line more. Assumes nothing.
 use Rattle.std.proofs.Common.{◌≡◌, ℕ, zero, suc, ◌+◌, ◌-◌, ◌<◌, ◌≤◌, Bool, true, false, cond, eqb, leb, ◌≢◌, ◌⊎◌, List, [], ◌∷◌, ◌++◌, length, get_or, take, set, replicate, sum_by, sym, refl, ap, ◌∙◌, subst, inl, inr, ⊎_elim, arith}
-use Rattle.std.specs.List.{AllByRecursion as All}
+use Rattle.std.specs.List.{AllByRecursion}
 use Rattle.std.proofs.lemmas.List.{take_more, get_or-set_same, get_or-set_other, length-set, length-replicate, get_or-replicate}
 use Rattle.std.proofs.ByRecursion.{All-get_or}
 use Rattle.std.proofs.lemmas.List.Sums.{sum_by-cons}
@@ -26,17 +26,17 @@ length-order n (q ∷ os) = length-set (order_row n os) (length os) (suc q) ∙ 
 few_some : (x : ℕ) → 0 < x → 0 < few x
 few_some x h = cond_both (leb x 4096) x 4097 (λ z. 0 < z) (λ _. h) (λ _. omega arith)
 
-step_some : (cs row : List ℕ) → All (λ c. 0 < get_or row c 0) cs → 0 < count_step cs row
+step_some : (cs row : List ℕ) → AllByRecursion (λ c. 0 < get_or row c 0) cs → 0 < count_step cs row
 unfolding count_step
 step_some [] row h = omega arith
 step_some (c ∷ cs) row h = few_some (sum_by (λ p. get_or row p 0) (c ∷ cs)) (let a = h.0 in omega (arith, sum_by-cons (λ p. get_or row p 0) c cs))
 
-each_counted : (qs row cs : List ℕ) → ((q : ℕ) → is_in q qs ≡ true → 0 < get_or row q 0) → All (λ c. is_in c qs ≡ true) cs → All (λ c. 0 < get_or row c 0) cs
+each_counted : (qs row cs : List ℕ) → ((q : ℕ) → is_in q qs ≡ true → 0 < get_or row q 0) → AllByRecursion (λ c. is_in c qs ≡ true) cs → AllByRecursion (λ c. 0 < get_or row c 0) cs
 each_counted qs row [] h k = tt
 each_counted qs row (c ∷ cs) h k = (h c k.0, each_counted qs row cs h k.1)
 
 pub filled_in :
-    (below : ℕ → List ℕ) (os row : List ℕ) → InDescentOrder below os → All (λ q. q < length row) os → (q : ℕ) → is_in q os ≡ true → 0 < get_or (filled_up count_step below os row) q 0
+    (below : ℕ → List ℕ) (os row : List ℕ) → InDescentOrder below os → AllByRecursion (λ q. q < length row) os → (q : ℕ) → is_in q os ≡ true → 0 < get_or (filled_up count_step below os row) q 0
 unfolding filled_up InDescentOrder
 filled_in below [] row order there q h = absurd (in_none q h)
 filled_in below (p ∷ os) row order there q h =
@@ -55,7 +55,7 @@ filled_in below (p ∷ os) row order there q h =
 
 -- whether somebody is listed
 module _ (n : ℕ) (f : Family) (out : List ℕ) (listing : Listing f out) (room : length f ≤ n) where
-  there_all : (os : List ℕ) → All (λ q. q < length f) os → All (λ q. q < length (replicate {A = ℕ} n 0)) os
+  there_all : (os : List ℕ) → AllByRecursion (λ q. q < length f) os → AllByRecursion (λ q. q < length (replicate {A = ℕ} n 0)) os
   there_all [] h = tt
   there_all (q ∷ os) h = (let a = h.0 in omega (arith, length-replicate {A = ℕ} n 0), there_all os h.1)
 

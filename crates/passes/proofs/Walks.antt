@@ -1,6 +1,6 @@
 -- Walking along the lines among which what comes to somebody is divided: the links met are those of the list of these lines. Assumes nothing.
 use Rattle.std.proofs.Common.{◌≡◌, ℕ, zero, suc, ◌+◌, ◌-◌, ◌<◌, ◌≤◌, Bool, true, false, cond, ◌⊎◌, List, [], ◌∷◌, length, get_or, take, drop, filter, sym, refl, ap, ◌∙◌, subst, ⊎_elim, arith}
-use Rattle.std.specs.List.{AllByRecursion as All}
+use Rattle.std.specs.List.{AllByRecursion}
 use Rattle.std.proofs.lemmas.List.{drop_more, drop_all}
 use Rattle.std.proofs.ByRecursion.{all_kept_by, All-get_or}
 use Rattle.std.proofs.lemmas.List.Sums.{length-filter, count_by-le-length}
@@ -79,9 +79,9 @@ line_none ds i link inv s =
     (cases_lt i (length ds))
 
 -- lines below are of persons who are there, and no more than these
-pub lines_there : (f : Family) (p : ℕ) → All (λ c. c < length f) (divided_among f p)
+pub lines_there : (f : Family) (p : ℕ) → AllByRecursion (λ c. c < length f) (divided_among f p)
 lines_there f p =
-    cond_both (person f p).lives [] (lines_below f (length f) p) (All (λ c. c < length f)) (λ _. tt)
+    cond_both (person f p).lives [] (lines_below f (length f) p) (AllByRecursion (λ c. c < length f)) (λ _. tt)
     (λ _. all_kept_by (alive f) (λ c. c < length f) (children f p) (children_there f p))
 
 pub lines_few : (f : Family) (p : ℕ) → length (divided_among f p) ≤ length f

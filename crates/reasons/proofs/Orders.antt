@@ -1,6 +1,6 @@
 -- The ways of each order, as they are gone down. Assumes nothing.
 use Rattle.std.proofs.Common.{◌≡◌, ℕ, zero, suc, ◌+◌, ◌-◌, ◌*◌, ◌<◌, ◌≤◌, Bool, true, false, cond, not, eqb, ◌⊎◌, List, [], ◌∷◌, ◌++◌, map, length, vec_items, vec_len, filter, sym, refl, ap, ◌∙◌, subst, ap₂, inl, inr, ⊎_elim, arith}
-use Rattle.std.specs.List.{flat_map, AllByRecursion as All}
+use Rattle.std.specs.List.{flat_map, AllByRecursion}
 use Rattle.std.proofs.lemmas.List.{append-nil, append_assoc, length-append, map-append}
 use Rattle.std.proofs.lemmas.List.Elements.{filter-append}
 use Rattle.std.proofs.ByRecursion.{All-weaker, All-append, all_kept_by, kept_by_passes}
@@ -19,7 +19,7 @@ use Rattle.reasons.specs.Estates.{side_in, LinesIn, Known, Put}
 
 -- what going down did, of ways that are those of an order
 went_put :
-    (f : Family) (rk : ℕ → ℕ) (d n : ℕ) (ps : List ℕ) (b : ℕ) (before after row : List Way) (t : Bool) → Ranked f rk → All (Enough f rk d n) ps → ways_below n f d [] ps b ≡ row →
+    (f : Family) (rk : ℕ → ℕ) (d n : ℕ) (ps : List ℕ) (b : ℕ) (before after row : List Way) (t : Bool) → Ranked f rk → AllByRecursion (Enough f rk d n) ps → ways_below n f d [] ps b ≡ row →
     Went f d n [] ps b before after t → Put before row after t
 went_put f rk d n ps b before after row true s enough e w = w ∙ ap (λ r. before ++ r) e
 went_put f rk d n ps b before after row false s enough e w = subst (Beyond before) e (w rk s enough)
@@ -28,10 +28,10 @@ module _ {f : Family} {rk : ℕ → ℕ} {d : ℕ} {s : ℕ → Bool} (k : Known
   pub kept_living : (ps : List ℕ) → filter s ps ≡ living_lines f d ps
   kept_living ps = kept_cong s (line_lives f d) ps (all_any (λ p. s p ≡ line_lives f d p) k.marks ps)
 
-  pub kept_lives : (ps : List ℕ) → All (λ p. line_lives f d p ≡ true) (filter s ps)
-  kept_lives ps = subst (All (λ p. line_lives f d p ≡ true)) (sym (kept_living ps)) (kept_by_passes (line_lives f d) ps)
+  pub kept_lives : (ps : List ℕ) → AllByRecursion (λ p. line_lives f d p ≡ true) (filter s ps)
+  kept_lives ps = subst (AllByRecursion (λ p. line_lives f d p ≡ true)) (sym (kept_living ps)) (kept_by_passes (line_lives f d) ps)
 
-  pub heads_put : (n : ℕ) (ps : List ℕ) (b : ℕ) (before after : List Way) (t : Bool) → length f ≡ n → All (λ p. line_lives f d p ≡ true) ps → Went f d n [] ps b before after t →
+  pub heads_put : (n : ℕ) (ps : List ℕ) (b : ℕ) (before after : List Way) (t : Bool) → length f ≡ n → AllByRecursion (λ p. line_lives f d p ≡ true) ps → Went f d n [] ps b before after t →
       Put before (heads_ways f d ps b) after t
   heads_put n ps b before after t e lives w =
       went_put f rk d n ps b before after (heads_ways f d ps b) t k.ranked
@@ -49,10 +49,10 @@ module _ {f : Family} {rk : ℕ → ℕ} {d : ℕ} {s : ℕ → Bool} (k : Known
     pub first_put : (each : ℕ) (before after : List Way) (t : Bool) → each ≡ b * length cs → Went f d (n - 1) [] cs each before after t → Put before (first_ways f d b) after t
     first_put each before after t m w =
         went_put f rk d (n - 1) cs each before after (first_ways f d b) t k.ranked
-        (subst (All (Enough f rk d (n - 1))) (sym (e ∙ kept_living (children f d))) (all_enough (living_lines f d (children f d)) (below_lives f d d)))
+        (subst (AllByRecursion (Enough f rk d (n - 1))) (sym (e ∙ kept_living (children f d))) (all_enough (living_lines f d (children f d)) (below_lives f d d)))
         (first_is each m) w
       where
-        all_enough : (ps : List ℕ) → All (λ p. line_lives f d p ≡ true) ps → All (Enough f rk d (n - 1)) ps
+        all_enough : (ps : List ℕ) → AllByRecursion (λ p. line_lives f d p ≡ true) ps → AllByRecursion (Enough f rk d (n - 1)) ps
         all_enough ps a = All-weaker (λ p. line_lives f d p ≡ true) (Enough f rk d (n - 1)) (λ p v. (v, let h = some in omega arith)) ps a
 
     pub first_stop : (before : List Way) → (n ≡ 0) ⊎ (4294967296 ≤ b * length cs) → Beyond before (first_ways f d b)
@@ -100,7 +100,7 @@ unfolding known
 side_few s f zero = omega arith
 side_few s f (suc p) = let a = parents_few s f p in omega (arith, length-append (filter s (parents f p)) [])
 
-pub side_kept : {X : ℕ → Type 0} (s : ℕ → Bool) (f : Family) (k : ℕ) → ((ps : List ℕ) → All X (filter s ps)) → All X (side_in s f k)
+pub side_kept : {X : ℕ → Type 0} (s : ℕ → Bool) (f : Family) (k : ℕ) → ((ps : List ℕ) → AllByRecursion X (filter s ps)) → AllByRecursion X (side_in s f k)
 unfolding known
 side_kept {X} s f zero h = tt
 side_kept {X} s f (suc p) h = All-append X (filter s (parents f p)) [] (h (parents f p)) tt

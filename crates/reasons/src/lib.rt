@@ -2,7 +2,7 @@
 #![tactic(auto)]
 
 ghost use Rattle.std.specs.Prelude.{◌≡◌, ℕ, suc, ◌+◌, ◌*◌, ◌<◌, ◌≤◌, Bool, true, false, List, [], ◌∷◌, ◌++◌, map, length, IfOk, if◌then◌else◌, vec_len, filter, OnOk, nat_eq, nat_le};
-ghost use Rattle.std.specs.List.{AllByRecursion as All};
+ghost use Rattle.std.specs.List.{AllByRecursion};
 ghost use Rattle.law.specs.Family.{person, known, children as law_children, parents as law_parents, line_lives, order as law_order, has_living_spouse};
 ghost use Rattle.theory.specs.Families.{Ranked};
 ghost use Rattle.shares.specs.Parts.{lead_parts, whole_row, number_of};
@@ -179,7 +179,7 @@ fn heads(
     each: u32,
     ways: &mut Vec<Way>,
 ) -> Result<bool, AllocError>
-    ensures put { IfOk result (λ t. ((rk : ℕ → ℕ) → Known (family_of family.now) rk decedent (in_row lives.now) → All (λ p. line_lives (family_of family.now) decedent p ≡ true) persons.now
+    ensures put { IfOk result (λ t. ((rk : ℕ → ℕ) → Known (family_of family.now) rk decedent (in_row lives.now) → AllByRecursion (λ p. line_lives (family_of family.now) decedent p ≡ true) persons.now
         → Put (law_ways ways.old.items) (heads_ways (family_of family.now) decedent persons.now each) (law_ways ways.new.items) t)) }
 {
     ways::go_down(
@@ -204,7 +204,7 @@ fn couple(
     ways: &mut Vec<Way>,
 ) -> Result<bool, AllocError>
     requires small { by ≤ 8 }
-    ensures put { IfOk result (λ t. ((rk : ℕ → ℕ) → Known (family_of family.now) rk decedent (in_row lives.now) → All (λ p. line_lives (family_of family.now) decedent p ≡ true) persons.now → length persons.now ≤ 2
+    ensures put { IfOk result (λ t. ((rk : ℕ → ℕ) → Known (family_of family.now) rk decedent (in_row lives.now) → AllByRecursion (λ p. line_lives (family_of family.now) decedent p ≡ true) persons.now → length persons.now ≤ 2
         → Put (law_ways ways.old.items) (heads_ways (family_of family.now) decedent persons.now (by * length persons.now)) (law_ways ways.new.items) t)) }
 {
     let Some(each) = ways::each_of(by, persons.len(), 1) else {

@@ -1,6 +1,6 @@
 -- What a register answers fits its bytes. Assumes nothing.
 use Rattle.std.proofs.Common.{◌≡◌, ℕ, zero, suc, ◌+◌, ◌-◌, ◌<◌, ◌≤◌, Bool, true, false, cond, not, ◌&&◌, ◌||◌, eqb, ltb, leb, ◌≢◌, List, ◌∷◌, map, length, get_or, filter, subst, div-le_self, arith}
-use Rattle.std.specs.List.{range_with_len, AllByRecursion as All}
+use Rattle.std.specs.List.{range_with_len, AllByRecursion}
 use Rattle.std.proofs.lemmas.Bool.{ltb-true, eqb-true, cond_both}
 use Rattle.law.specs.Family.{Family, person, estate}
 use Rattle.law.specs.Calls.{Call, born, wed, parted, dies, estate_of, unreadable, Answer, refused, number, shares, Limits, there, unmarried, gcd, common_multiple, pieces, refusal_of, refusal, place}
@@ -20,8 +20,8 @@ use Rattle.service.specs.Desks.{limits, state, says, bytes_asked}
 
 -- an answer whose values and shares go into their bytes, and whose bytes go into those of a register for n persons
 pub record FitsAnswer (n : ℕ) (a : Answer) : Type 0 where
-  pub values : All is_word (answer_values a)
-  pub fractions : All share_fits (answer_shares a)
+  pub values : AllByRecursion is_word (answer_values a)
+  pub fractions : AllByRecursion share_fits (answer_shares a)
   pub room : length (answer_bytes a) ≤ bytes_asked n
 
 fits_number : (n k : ℕ) → k < 4294967296 → FitsAnswer n (number k)
@@ -75,12 +75,12 @@ read_near row =
 
 -- the shares of those among m persons from a on: how many there are, and each goes into its bytes
 shares_fit :
-    (n : ℕ) (g : ℕ → ℕ) → n < 4294967296 → ((w : ℕ) → g w ≤ n) → (a m : ℕ) → a + m ≤ 4096 → All share_fits (shares_from n g a m) × (length (shares_from n g a m) ≤ m)
+    (n : ℕ) (g : ℕ → ℕ) → n < 4294967296 → ((w : ℕ) → g w ≤ n) → (a m : ℕ) → a + m ≤ 4096 → AllByRecursion share_fits (shares_from n g a m) × (length (shares_from n g a m) ≤ m)
 shares_fit n g small most a zero h = (tt, omega arith)
 shares_fit n g small most a (suc m) h =
     let more = shares_fit n g small most (a + 1) m (omega arith) in
     let others = filter (λ w. ltb 0 (g w)) (range_with_len (a + 1) m) in
-    cond_both (ltb 0 (g a)) (a ∷ others) others (λ ws. All share_fits (map (λ w. lowest_share n (g w) w) ws) × (length (map (λ w. lowest_share n (g w) w) ws) ≤ suc m))
+    cond_both (ltb 0 (g a)) (a ∷ others) others (λ ws. AllByRecursion share_fits (map (λ w. lowest_share n (g w) w) ws) × (length (map (λ w. lowest_share n (g w) w) ws) ≤ suc m))
     (λ _. (
       (
         (omega arith, omega (arith, div-le_self (g a) (gcd (g a) n), most a), omega (arith, div-le_self n (gcd (g a) n))),

@@ -2,7 +2,7 @@
 use Rattle.std.proofs.Common.{◌≡◌, ℕ, suc, ◌+◌, ◌-◌, ◌<◌, ◌≤◌, Bool, true, false, cond, not, ◌&&◌, eqb, List, [], ◌∷◌, ◌++◌, length, set, sym, refl, ap, ◌∙◌, subst, arith}
 use Rattle.std.proofs.lemmas.Bool.{ltb-true, eqb-true, eq-eqb, ne_eqb, or_right, cond-true, cond-false, cond_both}
 use Rattle.std.proofs.lemmas.List.{length_push, length-set}
-use Rattle.std.specs.List.{AllByRecursion as All}
+use Rattle.std.specs.List.{AllByRecursion}
 use Rattle.law.specs.Family.{Person, Family, person, has_living_spouse}
 use Rattle.law.specs.Calls.{Call, born, wed, parted, dies, estate_of, unreadable, refused, Limits, refusal, refusal_of, call_number, place, after, changed, newborn, dead, with_spouse, right}
 use Rattle.law.specs.Promise.{Memory, all_right, Right, ran, left_by, RefusalKeeps, without_marriages}
@@ -62,7 +62,7 @@ module _ (can : ℕ → Bool) (n : ℕ) (f : Family) (c : Call) (of : OfStage ca
   within_stage : length f ≤ n → length (after (limits_of can n) f c) ≤ n
   within_stage h = subst (λ g. length g ≤ n) (sym same_after) (within n f c h)
 
-pub same_family : (can : ℕ → Bool) (n : ℕ) (f : Family) (cs : List Call) → All (OfStage can) cs → ran (limits_of can n) f cs ≡ ran (limits n) f cs
+pub same_family : (can : ℕ → Bool) (n : ℕ) (f : Family) (cs : List Call) → AllByRecursion (OfStage can) cs → ran (limits_of can n) f cs ≡ ran (limits n) f cs
 unfolding ran
 same_family can n f [] of = refl
 same_family can n f (c ∷ cs) of =
@@ -81,7 +81,7 @@ module _ (can : ℕ → Bool) (rest : List ℕ) (n : ℕ) where
       (λ i. state (image (limit_at f i) (after (limits (limit_at f i)) (family_image n f rest h i) c) (rest_image n f rest i)))
       ∙ ap (λ g. state (image n g rest)) (sym (same_after can n f c of))
 
-  pub all_answered : (f : Family) (cs : List Call) → length f ≤ n → All (OfStage can) cs → all_right (desk rest) (limits_of can n) (state (image n f rest)) f cs
+  pub all_answered : (f : Family) (cs : List Call) → length f ≤ n → AllByRecursion (OfStage can) cs → all_right (desk rest) (limits_of can n) (state (image n f rest)) f cs
   unfolding all_right
   all_answered f [] h of = 0
   all_answered f (c ∷ cs) h of = (
@@ -91,7 +91,7 @@ module _ (can : ℕ → Bool) (rest : List ℕ) (n : ℕ) where
   )
 
   pub left_at :
-      (f : Family) (cs : List Call) → length f ≤ n → All (OfStage can) cs →
+      (f : Family) (cs : List Call) → length f ≤ n → AllByRecursion (OfStage can) cs →
       (left_by (desk rest) (state (image n f rest)) cs ≡ state (image n (ran (limits_of can n) f cs) rest)) × (length (ran (limits_of can n) f cs) ≤ n)
   unfolding ran left_by
   left_at f [] h of = (refl, h)
@@ -100,7 +100,7 @@ module _ (can : ℕ → Bool) (rest : List ℕ) (n : ℕ) where
       (ap (λ m. left_by (desk rest) m cs) (next_at f c h of.0) ∙ more.0, more.1)
 
   pub kept_at :
-      (cs : List Call) (c : Call) → All (OfStage can) cs → OfStage can c → 0 < refusal (limits_of can n) (ran (limits_of can n) [] cs) c →
+      (cs : List Call) (c : Call) → AllByRecursion (OfStage can) cs → OfStage can c → 0 < refusal (limits_of can n) (ran (limits_of can n) [] cs) c →
       next (left_by (desk rest) (state (image n [] rest)) cs) c ≡ left_by (desk rest) (state (image n [] rest)) cs
   kept_at cs c of taken pos =
       let f = ran (limits_of can n) [] cs in
@@ -126,7 +126,7 @@ keeps_within can rest l cs c most e of taken pos =
 pub any_call : (c : Call) → OfStage stage c
 any_call c = or_right (eqb (call_number c) 255) true refl
 
-pub any_calls : (cs : List Call) → All (OfStage stage) cs
+pub any_calls : (cs : List Call) → AllByRecursion (OfStage stage) cs
 any_calls cs = all_any (OfStage stage) any_call cs
 
 pub answers_right : (rest : List ℕ) → Right stage (desk rest)

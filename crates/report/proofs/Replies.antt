@@ -1,6 +1,6 @@
 -- What a register answers fits its bytes, and is read back from the bytes that were written. Assumes nothing.
 use Rattle.std.proofs.Common.{◌≡◌, ℕ, ◌+◌, ◌-◌, ◌<◌, ◌≤◌, Bool, true, false, cond, not, ◌&&◌, ◌||◌, eqb, ltb, leb, List, ◌++◌, length, get_or, take, drop, Some, sym, refl, ap, ◌∙◌, arith}
-use Rattle.std.specs.List.{AllByRecursion as All}
+use Rattle.std.specs.List.{AllByRecursion}
 use Rattle.std.proofs.lemmas.List.{take_at, length-take-le}
 use Rattle.std.proofs.lemmas.Bool.{ltb-true, eqb-true, cond_both}
 use Rattle.rows.specs.Written.{written}
@@ -17,8 +17,8 @@ use Rattle.register.specs.Stores.{bytes_asked}
 
 -- an answer whose values and shares go into their bytes, and whose bytes go into those of a register for n persons
 pub record FitsAnswer (n : ℕ) (a : Answer) : Type 0 where
-  pub values : All is_word (answer_values a)
-  pub fractions : All share_fits (answer_shares a)
+  pub values : AllByRecursion is_word (answer_values a)
+  pub fractions : AllByRecursion share_fits (answer_shares a)
   pub room : length (answer_bytes a) ≤ bytes_asked n
 
 fits_number : (n k : ℕ) → k < 4294967296 → FitsAnswer n (number k)

@@ -1,6 +1,6 @@
 -- Pieces that are added to what somebody has, and those of a row of parts. Assumes nothing.
 use Rattle.std.proofs.Common.{◌≡◌, ℕ, zero, suc, ◌+◌, ◌*◌, ◌/◌, ◌<◌, ◌≤◌, Bool, true, false, cond, eqb, ltb, List, [], ◌∷◌, ◌++◌, length, get_or, take, drop, set, Option, sym, refl, ap, ◌∙◌, subst, inl, inr, mul-le-mul_left, mul-add, arith}
-use Rattle.std.specs.List.{AllByRecursion as All}
+use Rattle.std.specs.List.{AllByRecursion}
 use Rattle.std.proofs.ByRecursion.{All-get_or}
 use Rattle.std.proofs.lemmas.List.{take_all, take-append-drop, take_more}
 use Rattle.std.proofs.lemmas.Bool.{cases_eq, eq-eqb, lt-ltb, ne_eqb}
@@ -86,7 +86,7 @@ gathered_le g times whole ps i w =
 -- A row of parts, each so many times, to be added to what each has: those who have them are there, and all fits a word.
 pub record Gathering (ps : List Part) (g : ℕ → ℕ) (persons times count whole : ℕ) : Type 0 where
   pub many : length ps ≡ count
-  pub there : 0 < times → All (λ (q : Part). q.who < persons) ps
+  pub there : 0 < times → AllByRecursion (λ (q : Part). q.who < persons) ps
   pub fits : (w : ℕ) → gathered g times whole ps w < 4294967296
 
 -- what a turn of the loop leaves, by what adding pieces promises
@@ -120,17 +120,17 @@ gathered_row lead times whole ps = λ j w. same w j
     same : (w : ℕ) → pieces whole (lead_parts lead) w + times * pieces whole ps w ≡ pieces whole (whole_row lead times ps) w
     same w = sym (pieces_append whole (lead_parts lead) (repeated times ps) w ∙ ap (λ k. pieces whole (lead_parts lead) w + k) (pieces_repeated whole times ps w))
 
-pub all_both_rows : (P : Part → Type 0) (ps qs : List Part) → All P (ps ++ qs) → All P ps × All P qs
+pub all_both_rows : (P : Part → Type 0) (ps qs : List Part) → AllByRecursion P (ps ++ qs) → AllByRecursion P ps × AllByRecursion P qs
 all_both_rows P [] qs a = (tt, a)
 all_both_rows P (p ∷ ps) qs a = let r = all_both_rows P ps qs a.1 in ((a.0, r.0), r.1)
 
-row_there : (P : Part → Type 0) (lead : Option PartStruct) (times : ℕ) (ps : List Part) → All P (whole_row lead times ps) → 0 < times → All P ps
+row_there : (P : Part → Type 0) (lead : Option PartStruct) (times : ℕ) (ps : List Part) → AllByRecursion P (whole_row lead times ps) → 0 < times → AllByRecursion P ps
 unfolding repeated
 row_there P lead zero ps a h = absurd (omega arith)
 row_there P lead (suc k) ps a h = (all_both_rows P ps (repeated k ps) (all_both_rows P (lead_parts lead) (repeated (suc k) ps) a).1).0
 
 pub row_gathering : (ps : List Part) (lead : Option PartStruct) (persons times count whole : ℕ) → length ps ≡ count
-    → All (λ (q : Part). q.who < persons) (whole_row lead times ps) → all_pieces whole (whole_row lead times ps) ≤ whole → whole < 4294967296
+    → AllByRecursion (λ (q : Part). q.who < persons) (whole_row lead times ps) → all_pieces whole (whole_row lead times ps) ≤ whole → whole < 4294967296
     → Gathering ps (pieces whole (lead_parts lead)) persons times count whole
 row_gathering ps lead persons times count whole many there all fits =
     record {

@@ -1,7 +1,7 @@
 -- Rows of parts that are settled: as words hold them, divided or not, and what their shares are. Assumes nothing.
 use Rattle.std.proofs.Common.{◌≡◌, ℕ, zero, suc, ◌+◌, ◌*◌, ◌<◌, ◌≤◌, Bool, true, false, cond, not, ◌&&◌, eqb, ltb, leb, ◌≢◌, List, [], ◌∷◌, ◌++◌, map, length, replicate, Some, None, Option, sym, refl, ap, ◌∙◌, subst, ⊎_elim, mul-pos, arith}
 use native.Mathlib.Nat.{zero-div}
-use Rattle.std.specs.List.{AllByRecursion as All}
+use Rattle.std.specs.List.{AllByRecursion}
 use Rattle.std.proofs.ByRecursion.{All-append, All-map, All-weaker}
 use Rattle.std.proofs.lemmas.List.{length-append, length-map, map-append}
 use Rattle.std.proofs.lemmas.Bool.{and_parts, cases_eq, cases_lt, cond-false, cond-true, eqb-false, le-ltb, lt-ltb, not-true}
@@ -41,7 +41,7 @@ pub divided_some : (ps : List Part) → dividable ps ≡ true → common_multipl
 divided_some ps e = eqb-false (common_multiple ps 1) 0 (not-true (eqb (common_multiple ps 1) 0) (and_parts (leb (length ps) 4096) (not (eqb (common_multiple ps 1) 0)) e).1)
 
 -- the shares are those of all persons who are there
-pub shares_among : (persons : ℕ) (ps : List Part) → All (λ (q : Part). q.who < persons) ps → common_multiple ps 1 ≢ 0
+pub shares_among : (persons : ℕ) (ps : List Part) → AllByRecursion (λ (q : Part). q.who < persons) ps → common_multiple ps 1 ≢ 0
     → shares_from (common_multiple ps 1) (pieces (common_multiple ps 1) ps) 0 persons ≡ shares_of ps
 shares_among persons ps there some =
     let n = common_multiple ps 1 in
@@ -70,7 +70,7 @@ settled_none m ps rest persons lead times count work answer r held many none e =
 
 pub settled_some :
     (m : ℕ) (ps : List Part) (rest : List ℕ) (persons : ℕ) (row : List Part) (n : ℕ) (work before answer : List ℕ) (r : ℕ) →
-    Some n ≡ number_of row → All (λ (q : Part). q.who < persons) row → (all_pieces n row ≤ n → WrittenOut m ps rest persons (shares_from n (pieces n row) 0 persons) work before answer r) →
+    Some n ≡ number_of row → AllByRecursion (λ (q : Part). q.who < persons) row → (all_pieces n row ≤ n → WrittenOut m ps rest persons (shares_from n (pieces n row) 0 persons) work before answer r) →
     all_pieces (common_multiple row 1) row ≤ common_multiple row 1 → Settled m ps rest row work before answer (Some r)
 settled_some m ps rest persons row n work before answer r number there written_out all =
     let d = divided_by row n number in
@@ -97,7 +97,7 @@ small_part p h = let e = cond-true (ltb p.by 4294967296) p.by 0 (lt-ltb p.by 429
 large_part : (p : Part) → 4294967296 ≤ p.by → (word_part p).by ≡ 0
 large_part p h = cond-false (ltb p.by 4294967296) p.by 0 (le-ltb p.by 4294967296 h)
 
-word_multiple : (ps : List Part) (n : ℕ) → 0 < n → All (λ (q : Part). 0 < q.by) ps → common_multiple (map word_part ps) n ≡ common_multiple ps n
+word_multiple : (ps : List Part) (n : ℕ) → 0 < n → AllByRecursion (λ (q : Part). 0 < q.by) ps → common_multiple (map word_part ps) n ≡ common_multiple ps n
 unfolding common_multiple
 word_multiple [] n h a = refl
 word_multiple (p ∷ ps) n h a =
@@ -115,7 +115,7 @@ word_multiple (p ∷ ps) n h a =
     (cases_lt p.by 4294967296)
 
 -- a row whose numbers fit a word reads back as it is
-pub word_same : (ps : List Part) → All (λ (q : Part). q.by < 4294967296) ps → map word_part ps ≡ ps
+pub word_same : (ps : List Part) → AllByRecursion (λ (q : Part). q.by < 4294967296) ps → map word_part ps ≡ ps
 word_same [] a = refl
 word_same (p ∷ ps) a = λ j. small_part p a.0 j ∷ word_same ps a.1 j
 
@@ -141,7 +141,7 @@ module _ (lead : Option PartStruct) (times : ℕ) (ps : List Part) where
   row_words : word_row ≡ lead_parts lead ++ map word_part (repeated times ps)
   row_words = ap (λ r. lead_parts lead ++ r) (word_repeated times ps)
 
-  pub row_multiple : All (λ (q : Part). 0 < q.by) row → common_multiple word_row 1 ≡ common_multiple row 1
+  pub row_multiple : AllByRecursion (λ (q : Part). 0 < q.by) row → common_multiple word_row 1 ≡ common_multiple row 1
   row_multiple a =
       let n = common_multiple (lead_parts lead) 1 in
       ap (λ (qs : List Part). common_multiple qs 1) row_words
@@ -158,7 +158,7 @@ module _ (lead : Option PartStruct) (times : ℕ) (ps : List Part) where
   pub row_same : common_multiple row 1 ≢ 0 → word_row ≡ row
   row_same some =
       let each = divides_all_each (common_multiple row 1) row (common_multiple_divides row 1 some).1 in
-      let small : All (λ (q : Part). q.by < 4294967296) row =
+      let small : AllByRecursion (λ (q : Part). q.by < 4294967296) row =
       All-weaker (λ (q : Part). Divides q.by (common_multiple row 1)) (λ (q : Part). q.by < 4294967296) (λ q d. (below_multiple row q.by some d).2) row each in
       row_words
       ∙ ap (λ r. lead_parts lead ++ r) (word_same (repeated times ps) (all_both_rows (λ (q : Part). q.by < 4294967296) (lead_parts lead) (repeated times ps) small).1)
@@ -170,17 +170,17 @@ module _ (lead : Option PartStruct) (times : ℕ) (ps : List Part) where
       ∙ ap (λ k. length (lead_parts lead) + k) (length-map (repeated times ps) word_part)
       ∙ sym (length-append (lead_parts lead) (repeated times ps))
 
-  pub row_dividable : All (λ (q : Part). 0 < q.by) row → dividable word_row ≡ dividable row
+  pub row_dividable : AllByRecursion (λ (q : Part). 0 < q.by) row → dividable word_row ≡ dividable row
   row_dividable a = λ j. leb (row_length j) 4096 && not (eqb (row_multiple a j) 0)
 
-  pub row_there : (persons : ℕ) → All (λ (q : Part). q.who < persons) row → All (λ (q : Part). q.who < persons) word_row
+  pub row_there : (persons : ℕ) → AllByRecursion (λ (q : Part). q.who < persons) row → AllByRecursion (λ (q : Part). q.who < persons) word_row
   row_there persons a =
       let both = all_both_rows (λ (q : Part). q.who < persons) (lead_parts lead) (repeated times ps) a in
-      subst (All (λ (q : Part). q.who < persons)) (sym row_words)
+      subst (AllByRecursion (λ (q : Part). q.who < persons)) (sym row_words)
       (All-append (λ (q : Part). q.who < persons) (lead_parts lead) (map word_part (repeated times ps)) both.0
       (All-map (λ (q : Part). q.who < persons) word_part (repeated times ps) both.1))
 
-  pub row_within : All (λ (q : Part). 0 < q.by) row → all_pieces (common_multiple row 1) row ≤ common_multiple row 1 → all_pieces (common_multiple word_row 1) word_row ≤ common_multiple word_row 1
+  pub row_within : AllByRecursion (λ (q : Part). 0 < q.by) row → all_pieces (common_multiple row 1) row ≤ common_multiple row 1 → all_pieces (common_multiple word_row 1) word_row ≤ common_multiple word_row 1
   row_within a h =
       ⊎_elim
       (λ (z : common_multiple row 1 ≡ 0).
@@ -191,7 +191,7 @@ module _ (lead : Option PartStruct) (times : ℕ) (ps : List Part) where
       (cases_eq (common_multiple row 1) 0)
 
   -- whatever is made of the row, where it can be divided
-  row_made : {X : Type 0} (F : List Part → X) (y : X) → All (λ (q : Part). 0 < q.by) row → cond (dividable word_row) (F word_row) y ≡ cond (dividable row) (F row) y
+  row_made : {X : Type 0} (F : List Part → X) (y : X) → AllByRecursion (λ (q : Part). 0 < q.by) row → cond (dividable word_row) (F word_row) y ≡ cond (dividable row) (F row) y
   row_made {X} F y a = ap (λ b. cond b (F word_row) y) (row_dividable a) ∙ go (dividable row) (λ e. ap F (row_same (divided_some row e)))
     where
       go : (b : Bool) → (b ≡ true → F word_row ≡ F row) → cond b (F word_row) y ≡ cond b (F row) y
@@ -200,7 +200,7 @@ module _ (lead : Option PartStruct) (times : ℕ) (ps : List Part) where
 
   -- what is settled of the row as words hold it, and then the words of its parts cleared
   pub settled_row :
-      (m : ℕ) (rest work before answer after : List ℕ) (r : Option ℕ) → All (λ (q : Part). 0 < q.by) row → length ps ≤ 4096 → Settled m (map word_part ps) rest word_row work before answer r →
+      (m : ℕ) (rest work before answer after : List ℕ) (r : Option ℕ) → AllByRecursion (λ (q : Part). 0 < q.by) row → length ps ≤ 4096 → Settled m (map word_part ps) rest word_row work before answer r →
       after ≡ written 0 (replicate (2 * length ps) 0) work → Settled m [] rest row after before answer r
   settled_row m rest work before answer after r a few s cleared =
       let many = length-map ps word_part in

@@ -1,7 +1,7 @@
 -- All shares together are all parts together. Assumes nothing.
 use Rattle.std.proofs.Common.{◌≡◌, ℕ, zero, suc, ◌+◌, ◌*◌, ◌/◌, ◌<◌, ◌≤◌, true, cond, eqb, ltb, List, [], ◌∷◌, map, sum_by, filter, sym, refl, ap, ◌∙◌, inl, inr, arith}
 use native.Mathlib.Nat.{mul-div_right}
-use Rattle.std.specs.List.{range_with_len, AllByRecursion as All}
+use Rattle.std.specs.List.{range_with_len, AllByRecursion}
 use Rattle.std.proofs.lemmas.List.Sums.{sum_by-cons}
 use Rattle.std.proofs.lemmas.Bool.{cases_eq, cond_both, eq-eqb, ltb-false, ne_eqb}
 use Rattle.law.specs.Family.{Part}
@@ -71,7 +71,7 @@ nothing_sum : (xs : List ℕ) → sum_by (λ w. 0) xs ≡ 0
 nothing_sum [] = refl
 nothing_sum (x ∷ xs) = sum_by-cons (λ w. 0) x xs ∙ (let e = nothing_sum xs in omega arith)
 
-pieces_sum : (n m : ℕ) (ps : List Part) → All (λ (q : Part). q.who < m) ps → sum_by (pieces n ps) (range_with_len 0 m) ≡ all_pieces n ps
+pieces_sum : (n m : ℕ) (ps : List Part) → AllByRecursion (λ (q : Part). q.who < m) ps → sum_by (pieces n ps) (range_with_len 0 m) ≡ all_pieces n ps
 unfolding pieces all_pieces
 pieces_sum n m [] a = nothing_sum (range_with_len 0 m)
 pieces_sum n m (p ∷ ps) a =

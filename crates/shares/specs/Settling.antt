@@ -1,6 +1,6 @@
 -- What dividing an estate leaves in the work area and in the answer, and what it says. Assumes nothing: these are definitions.
 use Rattle.std.specs.Prelude.{◌≡◌, ℕ, ◌<◌, ◌≤◌, cond, List, length, Some, None, Option}
-use Rattle.std.specs.List.{AllByRecursion as All}
+use Rattle.std.specs.List.{AllByRecursion}
 use Rattle.law.specs.Family.{Part}
 use Rattle.law.specs.Calls.{Share, shares, common_multiple, all_pieces}
 use Rattle.bits.specs.Sets.{no_member}
@@ -18,8 +18,8 @@ pub record WrittenOut (m : ℕ) (ps : List Part) (rest : List ℕ) (persons : �
 
 -- A row that can be settled among so many persons: each part is one of theirs, by some number, and all together are no more than the estate.
 pub record SoundRow (persons : ℕ) (row : List Part) : Type 0 where
-  pub there : All (λ (q : Part). q.who < persons) row
-  pub positive : All (λ (q : Part). 0 < q.by) row
+  pub there : AllByRecursion (λ (q : Part). q.who < persons) row
+  pub positive : AllByRecursion (λ (q : Part). 0 < q.by) row
   pub within : all_pieces (common_multiple row 1) row ≤ common_multiple row 1
 
 -- A row is settled: nobody is an heir or has pieces, these parts are left in the work area, and where the row can be divided, the answer begins with its shares

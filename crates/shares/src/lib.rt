@@ -3,7 +3,7 @@
 #![tactic(auto)]
 
 ghost use Rattle.std.specs.Prelude.{◌≡◌, ℕ, ◌+◌, ◌*◌, ◌/◌, ◌<◌, ◌≤◌, List, [], map, length};
-ghost use Rattle.std.specs.List.{AllByRecursion as All};
+ghost use Rattle.std.specs.List.{AllByRecursion};
 ghost use Rattle.bits.specs.Sets.{no_member};
 ghost use Rattle.law.specs.Calls.{gcd as law_gcd, pieces as law_pieces, all_pieces, common_multiple};
 ghost use Rattle.law.specs.Family.{Part as LawPart};
@@ -173,7 +173,7 @@ pub fn add_pieces(work: &mut [u32], persons: u32, who: u32, more: u64)
 fn add_lead(work: &mut [u32], persons: u32, lead: Option<Part>, whole: u32)
     requires few { persons ≤ 4096 }
     requires room { 8320 + persons ≤ length work.old }
-    ensures left { (m : ℕ) (ps : List LawPart) (rest : List ℕ) → Held m ps no_pieces rest persons work.old → All (λ q. q.who < persons) (lead_parts lead) → Held m ps (law_pieces whole (lead_parts lead)) rest persons work.new }
+    ensures left { (m : ℕ) (ps : List LawPart) (rest : List ℕ) → Held m ps no_pieces rest persons work.old → AllByRecursion (λ q. q.who < persons) (lead_parts lead) → Held m ps (law_pieces whole (lead_parts lead)) rest persons work.new }
 {
     if let Some(part) = lead {
         add_pieces(work, persons, part.who, amount(1, whole, part.by));
@@ -192,7 +192,7 @@ pub fn gather(
     requires few { persons ≤ 4096 }
     requires listed { count ≤ 4096 }
     requires room { 8320 + persons ≤ length work.old }
-    ensures left { (m : ℕ) (ps : List LawPart) (rest : List ℕ) → Held m ps no_pieces rest persons work.old → length ps ≡ count → All (λ q. q.who < persons) (whole_row lead times ps) → all_pieces whole (whole_row lead times ps) ≤ whole → Held m ps (law_pieces whole (whole_row lead times ps)) rest persons work.new }
+    ensures left { (m : ℕ) (ps : List LawPart) (rest : List ℕ) → Held m ps no_pieces rest persons work.old → length ps ≡ count → AllByRecursion (λ q. q.who < persons) (whole_row lead times ps) → all_pieces whole (whole_row lead times ps) ≤ whole → Held m ps (law_pieces whole (whole_row lead times ps)) rest persons work.new }
 {
     add_lead(work, persons, lead, whole);
     for index in 0..count {
@@ -237,7 +237,7 @@ fn divide(
     requires listed { count ≤ 4096 }
     requires room { 8320 + persons ≤ length work.old }
     requires bytes { 5 + 20 * persons ≤ length answer.old }
-    ensures settled { (m : ℕ) (ps : List LawPart) (rest : List ℕ) → Held m ps no_pieces rest persons work.old → length ps ≡ count → All (λ q. q.who < persons) (whole_row lead times ps) → all_pieces (common_multiple (whole_row lead times ps) 1) (whole_row lead times ps) ≤ common_multiple (whole_row lead times ps) 1 → Settled m ps rest (whole_row lead times ps) work.new answer.old answer.new result }
+    ensures settled { (m : ℕ) (ps : List LawPart) (rest : List ℕ) → Held m ps no_pieces rest persons work.old → length ps ≡ count → AllByRecursion (λ q. q.who < persons) (whole_row lead times ps) → all_pieces (common_multiple (whole_row lead times ps) 1) (whole_row lead times ps) ≤ common_multiple (whole_row lead times ps) 1 → Settled m ps rest (whole_row lead times ps) work.new answer.old answer.new result }
 {
     let number = whole(work, lead, times, count)?;
     gather(work, persons, lead, times, count, number);

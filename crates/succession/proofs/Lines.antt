@@ -1,6 +1,6 @@
 -- The lines of forebears, one behind the other. Assumes nothing.
 use Rattle.std.proofs.Common.{◌≡◌, ℕ, zero, suc, ◌+◌, ◌-◌, ◌*◌, ◌<◌, Bool, true, false, cond, ◌⊎◌, List, [], ◌∷◌, ◌++◌, length, Some, None, filter, Option, sym, refl, ap, ◌∙◌, subst, ⊎_elim, arith}
-use Rattle.std.specs.List.{flat_map, AllByRecursion as All}
+use Rattle.std.specs.List.{flat_map, AllByRecursion}
 use Rattle.std.proofs.lemmas.List.{append_assoc, append-nil, length-append}
 use Rattle.std.proofs.lemmas.List.Elements.{filter-append}
 use Rattle.std.proofs.ByRecursion.{All-append}
@@ -48,7 +48,7 @@ gone_nothing ws n f rk ps row spare rest count begun e =
     let none : length row ≡ 0 = ap length e in
     let many = begun.parts in
     let few = begun.few in
-    (omega arith, omega arith, begun.words ∙ ap (λ r. with_parts n f r spare rest) (sym (ap (λ r. ps ++ r) e ∙ append-nil ps)), subst (All Small) (sym e) tt)
+    (omega arith, omega arith, begun.words ∙ ap (λ r. with_parts n f r spare rest) (sym (ap (λ r. ps ++ r) e ∙ append-nil ps)), subst (AllByRecursion Small) (sym e) tt)
 
 pub begun_more :
     (ws mem : List ℕ) (n : ℕ) (f : Family) (rk : ℕ → ℕ) (ps row : List Part) (spare rest : List ℕ) (count at : ℕ) → Begun ws n f rk ps spare rest count → Gone n f spare rest ps row mem (Some at) →
@@ -64,7 +64,7 @@ gone_first n f spare rest ps row next mem g =
     stopped_below n f spare rest ps row [] next (row ++ next) mem refl (subst (λ qs. Gone n f spare rest qs row mem None) (sym (append-nil ps)) g)
 
 pub gone_then :
-    (n : ℕ) (f : Family) (spare rest : List ℕ) (ps row next : List Part) (mem : List ℕ) (r : Option ℕ) → All Small row → Gone n f spare rest (ps ++ row) next mem r →
+    (n : ℕ) (f : Family) (spare rest : List ℕ) (ps row next : List Part) (mem : List ℕ) (r : Option ℕ) → AllByRecursion Small row → Gone n f spare rest (ps ++ row) next mem r →
     Gone n f spare rest ps (row ++ next) mem r
 gone_then n f spare rest ps row next mem None small g =
     stopped_below n f spare rest ps next row [] (row ++ next) mem (ap (λ x. row ++ x) (sym (append-nil next))) g

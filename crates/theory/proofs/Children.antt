@@ -1,6 +1,6 @@
 -- Children: who they are, and how they change with the family. Assumes nothing.
 use Rattle.std.proofs.Common.{◌≡◌, ℕ, zero, suc, ◌+◌, ◌<◌, ◌≤◌, Bool, true, false, cond, ◌||◌, eqb, List, [], ◌∷◌, ◌++◌, length, set, sym, refl, ap, ◌∙◌, subst, ap₂, ⊎_elim, arith}
-use Rattle.std.specs.List.{AllByRecursion as All}
+use Rattle.std.specs.List.{AllByRecursion}
 use Rattle.std.proofs.lemmas.List.{length_push, get_or_push, get_or_append_left}
 use Rattle.std.proofs.ByRecursion.{All-append}
 use Rattle.std.proofs.lemmas.Bool.{cases_eq, or_cases, or_left, or_right, both_ways, cond_both}
@@ -9,14 +9,14 @@ use Rattle.theory.specs.Families.{SameParents}
 use Rattle.theory.proofs.Families.{mother_child, father_child, child_there, child_same, parents_set}
 
 -- each of them is a child
-children_in_child : (f : Family) (p n c : ℕ) → All (λ x. is_child f p x ≡ true) (children_in f p n c)
+children_in_child : (f : Family) (p n c : ℕ) → AllByRecursion (λ x. is_child f p x ≡ true) (children_in f p n c)
 unfolding children_in
 children_in_child f p zero c = tt
 children_in_child f p (suc n) c =
-    cond_both (is_child f p c) (c ∷ children_in f p n (suc c)) (children_in f p n (suc c)) (All (λ x. is_child f p x ≡ true))
+    cond_both (is_child f p c) (c ∷ children_in f p n (suc c)) (children_in f p n (suc c)) (AllByRecursion (λ x. is_child f p x ≡ true))
     (λ e. (e, children_in_child f p n (suc c))) (λ _. children_in_child f p n (suc c))
 
-pub children_child : (f : Family) (p : ℕ) → All (λ x. is_child f p x ≡ true) (children f p)
+pub children_child : (f : Family) (p : ℕ) → AllByRecursion (λ x. is_child f p x ≡ true) (children f p)
 children_child f p = children_in_child f p (length f) 0
 
 -- a test that a child passes, some child passes; and the other way round
@@ -37,7 +37,7 @@ some_in f g p x (suc n) c k e a b =
 pub some_child : (f : Family) (g : ℕ → Bool) (p c : ℕ) → is_child f p c ≡ true → g c ≡ true → some_of g (children f p) ≡ true
 some_child f g p c k e = let l = child_there f p c k in some_in f g p c (length f) 0 k e (omega arith) (omega arith)
 
-which_of : (f : Family) (g : ℕ → Bool) (p : ℕ) (cs : List ℕ) → All (λ c. is_child f p c ≡ true) cs → some_of g cs ≡ true → (c : ℕ) × (is_child f p c ≡ true) × (g c ≡ true)
+which_of : (f : Family) (g : ℕ → Bool) (p : ℕ) (cs : List ℕ) → AllByRecursion (λ c. is_child f p c ≡ true) cs → some_of g cs ≡ true → (c : ℕ) × (is_child f p c ≡ true) × (g c ≡ true)
 unfolding some_of
 which_of f g p [] a e = absurd (both_ways false refl e)
 which_of f g p (c ∷ cs) a e = ⊎_elim (λ h. (c, a.0, h)) (λ h. which_of f g p cs a.1 h) (or_cases (g c) (some_of g cs) e)
@@ -88,12 +88,12 @@ children_push f x p =
     ∙ ap (λ (z : Person). cond (eqb z.mother (suc p) || eqb z.father (suc p)) (length f ∷ []) []) (get_or_push f x nobody (length f) refl)))
 
 -- parents are those whose child somebody is
-known_all : (P : ℕ → Type 0) (m : ℕ) → ((q : ℕ) → m ≡ suc q → P q) → All P (known m)
+known_all : (P : ℕ → Type 0) (m : ℕ) → ((q : ℕ) → m ≡ suc q → P q) → AllByRecursion P (known m)
 unfolding known
 known_all P zero h = tt
 known_all P (suc m) h = (h m refl, tt)
 
-pub parents_parent : (f : Family) (p : ℕ) → All (λ q. is_child f q p ≡ true) (parents f p)
+pub parents_parent : (f : Family) (p : ℕ) → AllByRecursion (λ q. is_child f q p ≡ true) (parents f p)
 parents_parent f p =
     All-append (λ q. is_child f q p ≡ true) (known (person f p).mother) (known (person f p).father)
     (known_all (λ q. is_child f q p ≡ true) (person f p).mother (λ q e. mother_child f q p e))

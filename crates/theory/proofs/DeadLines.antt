@@ -1,6 +1,6 @@
 -- One more person who does not live, and who is nobody's parent, changes nobody's part. Assumes nothing.
 use Rattle.std.proofs.Common.{◌≡◌, ℕ, suc, ◌-◌, ◌*◌, ◌<◌, Bool, true, false, cond, not, ◌&&◌, ◌||◌, eqb, ◌≢◌, List, [], ◌∷◌, ◌++◌, length, sym, refl, ap, ◌∙◌, ap₂, ⊎_elim, arith}
-use Rattle.std.specs.List.{flat_map, AllByRecursion as All}
+use Rattle.std.specs.List.{flat_map, AllByRecursion}
 use Rattle.std.proofs.lemmas.List.{append-nil, length_push, get_or_push, get_or_append_left, set_at}
 use Rattle.std.proofs.lemmas.List.Elements.{filter-append}
 use Rattle.std.proofs.ByRecursion.{All-weaker}
@@ -26,10 +26,10 @@ module _ {f : Family} {rk rk' : ℕ → ℕ} (x : Person) (s : Ranked f rk) (t :
   last : ℕ → List ℕ
   last p = cond (eqb x.mother (suc p) || eqb x.father (suc p)) (length f ∷ []) []
 
-  last_child : (p : ℕ) (P : ℕ → Type 0) → (is_child g p (length f) ≡ true → P (length f)) → All P (last p)
+  last_child : (p : ℕ) (P : ℕ → Type 0) → (is_child g p (length f) ≡ true → P (length f)) → AllByRecursion P (last p)
   unfolding last
   last_child p P h =
-      cond_both (eqb x.mother (suc p) || eqb x.father (suc p)) (length f ∷ []) [] (All P)
+      cond_both (eqb x.mother (suc p) || eqb x.father (suc p)) (length f ∷ []) [] (AllByRecursion P)
       (λ e. (h (ap (λ (z : Person). eqb z.mother (suc p) || eqb z.father (suc p)) (get_or_push f x nobody (length f) refl) ∙ e), tt)) (λ _. tt)
 
   children_last : (p : ℕ) → children g p ≡ children f p ++ last p

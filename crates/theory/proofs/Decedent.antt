@@ -1,6 +1,6 @@
 -- Where the decedent is marked dead, their estate is the same, and no line need leave them out. Assumes nothing.
 use Rattle.std.proofs.Common.{◌≡◌, ℕ, zero, suc, ◌-◌, ◌<◌, ◌≤◌, Bool, true, false, cond, not, ◌&&◌, ◌||◌, eqb, ◌≢◌, ◌⊎◌, List, ◌++◌, length, set, sym, refl, ap, ◌∙◌, subst, ap₂, inl, inr, ⊎_elim, arith}
-use Rattle.std.specs.List.{AllByRecursion as All}
+use Rattle.std.specs.List.{AllByRecursion}
 use Rattle.std.proofs.lemmas.List.{length-set, get_or-set_same, get_or-set_other, set-set, set-get_or, set_past}
 use Rattle.std.proofs.lemmas.Bool.{cases_eq, cases_lt, cases_Bool, eqb-true, eq-eqb, ne_eqb, not-false, not_from_true, cond-true, cond-false}
 use Rattle.law.specs.Family.{Person, person, Family, nobody, is_child, children, some_of, line_lives, living_lines, Part, line_parts, parents, couple_parts, side_lives, living_sides, order, relatives_parts, has_living_spouse, estate}
@@ -136,7 +136,7 @@ module _ {f : Family} {rk : ℕ → ℕ} (s : Ranked f rk) (d : ℕ) where
     pub side_kept : (p : ℕ) → side_lives f d p ≡ side_lives g (length g) p
     side_kept p = sym (side_same f g d (length g) all_lives p (parents_same f g dead_parents p))
 
-    parents_also : (x : ℕ) → All (λ p. parents g p ≡ parents f p) (parents f x)
+    parents_also : (x : ℕ) → AllByRecursion (λ p. parents g p ≡ parents f p) (parents f x)
     parents_also x = all_any (λ p. parents g p ≡ parents f p) (parents_same f g dead_parents) (parents f x)
 
     pub sides_kept : living_sides f d ≡ kept_sides g d

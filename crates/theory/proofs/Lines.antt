@@ -1,6 +1,6 @@
 -- Lines of descent by one step, without a bound on the steps, and induction along them, in a family that has a rank. Assumes nothing.
 use Rattle.std.proofs.Common.{◌≡◌, ℕ, zero, suc, ◌+◌, ◌*◌, ◌<◌, ◌≤◌, Bool, true, false, cond, not, ◌&&◌, ◌||◌, eqb, ◌≢◌, ◌⊎◌, List, [], ◌∷◌, length, sym, refl, ap, ◌∙◌, subst, ap₂, inl, inr, ⊎_elim, arith}
-use Rattle.std.specs.List.{flat_map, AllByRecursion as All}
+use Rattle.std.specs.List.{flat_map, AllByRecursion}
 use Rattle.std.proofs.ByRecursion.{All-weaker, all_kept_by, kept_by_passes}
 use Rattle.std.proofs.lemmas.Bool.{cases_lt, cases_Bool, and_from, and_right, or_from, or_left, or_right, or_parts, eq-eqb, ne_eqb, not_from_false, not_from_true, and_left, cond-true, cond-false, cond_both}
 use Rattle.law.specs.Family.{Person, person, Family, is_child, children, some_of, line_lives_in, line_lives, living_lines, Part, line_parts_in, line_parts}
@@ -72,10 +72,10 @@ pub decedent_line : (f : Family) (d : ℕ) → line_lives f d d ≡ false
 decedent_line f d = decedent_line_in f d (length f)
 
 -- the children whose lines live are children, and their lines live
-pub below_child : (f : Family) (d p : ℕ) → All (λ c. is_child f p c ≡ true) (lines_below f d p)
+pub below_child : (f : Family) (d p : ℕ) → AllByRecursion (λ c. is_child f p c ≡ true) (lines_below f d p)
 below_child f d p = all_kept_by (λ c. line_lives f d c) (λ c. is_child f p c ≡ true) (children f p) (children_child f p)
 
-pub below_lives : (f : Family) (d p : ℕ) → All (λ c. line_lives f d c ≡ true) (lines_below f d p)
+pub below_lives : (f : Family) (d p : ℕ) → AllByRecursion (λ c. line_lives f d c ≡ true) (lines_below f d p)
 below_lives f d p = kept_by_passes (λ c. line_lives f d c) (children f p)
 
 module _ {f : Family} {rk : ℕ → ℕ} (s : Ranked f rk) where
@@ -83,7 +83,7 @@ module _ {f : Family} {rk : ℕ → ℕ} (s : Ranked f rk) where
   rank_past : (p : ℕ) → length f ≤ rk p → length f ≤ p
   rank_past p l = ⊎_elim (λ (k : p < length f). absurd (let w = s.within p k in omega arith)) (λ k. k) (cases_lt p (length f))
 
-  children_after : (p : ℕ) (P : ℕ → Type 0) → ((c : ℕ) → rk p < rk c → P c) → All P (children f p)
+  children_after : (p : ℕ) (P : ℕ → Type 0) → ((c : ℕ) → rk p < rk c → P c) → AllByRecursion P (children f p)
   children_after p P h = All-weaker (λ c. is_child f p c ≡ true) P (λ c k. h c (s.up p c k)) (children f p) (children_child f p)
 
   -- what holds of a person if it holds of the children holds of everybody

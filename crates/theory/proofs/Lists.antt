@@ -1,6 +1,6 @@
 -- Laws of some_of, joined and kept-by over rows of numbers and parts. Assumes nothing.
 use Rattle.std.proofs.Common.{◌≡◌, ℕ, suc, ◌<◌, Bool, true, false, cond, not, ◌||◌, eqb, List, [], ◌∷◌, ◌++◌, length, filter, sym, refl, ap, ◌∙◌, ap₂, arith}
-use Rattle.std.specs.List.{flat_map, AllByRecursion as All}
+use Rattle.std.specs.List.{flat_map, AllByRecursion}
 use Rattle.std.proofs.lemmas.List.{append_assoc}
 use Rattle.std.proofs.ByRecursion.{All-append}
 use Rattle.std.proofs.lemmas.Bool.{eqb-false, ne_eqb, not-true, not_from_false, or_parts, or_from, or_left, cond-false, cond_both}
@@ -13,25 +13,25 @@ same_test false true p q = q refl
 same_test false false p q = refl
 
 -- what holds of each
-pub all_any : {X : Type 0} (P : X → Type 0) → ((x : X) → P x) → (xs : List X) → All P xs
+pub all_any : {X : Type 0} (P : X → Type 0) → ((x : X) → P x) → (xs : List X) → AllByRecursion P xs
 all_any P h [] = tt
 all_any P h (x ∷ xs) = (h x, all_any P h xs)
 
-pub all_both : {X : Type 0} (P Q R : X → Type 0) → ((x : X) → P x → Q x → R x) → (xs : List X) → All P xs → All Q xs → All R xs
+pub all_both : {X : Type 0} (P Q R : X → Type 0) → ((x : X) → P x → Q x → R x) → (xs : List X) → AllByRecursion P xs → AllByRecursion Q xs → AllByRecursion R xs
 all_both P Q R h [] a b = tt
 all_both P Q R h (x ∷ xs) a b = (h x a.0 b.0, all_both P Q R h xs a.1 b.1)
 
-pub all_one : {X : Type 0} (P : Type 0) (xs : List X) → 0 < length xs → All (λ (x : X). P) xs → P
+pub all_one : {X : Type 0} (P : Type 0) (xs : List X) → 0 < length xs → AllByRecursion (λ (x : X). P) xs → P
 all_one P [] l a = absurd (omega arith)
 all_one P (x ∷ xs) l a = a.0
 
 -- a test that is passed by some of a row
-pub some_cong : (g h : ℕ → Bool) (cs : List ℕ) → All (λ c. g c ≡ h c) cs → some_of g cs ≡ some_of h cs
+pub some_cong : (g h : ℕ → Bool) (cs : List ℕ) → AllByRecursion (λ c. g c ≡ h c) cs → some_of g cs ≡ some_of h cs
 unfolding some_of
 some_cong g h [] a = refl
 some_cong g h (c ∷ cs) a = ap₂ (λ (x y : Bool). x || y) a.0 (some_cong g h cs a.1)
 
-pub some_none : (g : ℕ → Bool) (cs : List ℕ) → All (λ c. g c ≡ false) cs → some_of g cs ≡ false
+pub some_none : (g : ℕ → Bool) (cs : List ℕ) → AllByRecursion (λ c. g c ≡ false) cs → some_of g cs ≡ false
 unfolding some_of
 some_none g [] a = refl
 some_none g (c ∷ cs) a = or_from (g c) (some_of g cs) a.0 (some_none g cs a.1)
@@ -46,7 +46,7 @@ some_append g (x ∷ xs) ys = ap (λ (z : Bool). g x || z) (some_append g xs ys)
     assoc false = refl
 
 -- what is kept by tests
-pub kept_cong : {X : Type 0} (p q : X → Bool) (xs : List X) → All (λ x. p x ≡ q x) xs → filter p xs ≡ filter q xs
+pub kept_cong : {X : Type 0} (p q : X → Bool) (xs : List X) → AllByRecursion (λ x. p x ≡ q x) xs → filter p xs ≡ filter q xs
 kept_cong p q [] a = refl
 kept_cong {X} p q (x ∷ xs) a = ap₂ (λ (b : Bool) (ys : List X). cond b (x ∷ ys) ys) a.0 (kept_cong p q xs a.1)
 
@@ -68,15 +68,15 @@ kept_positive ws e = let z = eqb-false (length ws) 0 (not-true (eqb (length ws) 
 
 -- rows one after the other
 module _ {X A : Type 0} where
-  pub joined_cong : (g h : X → List A) (xs : List X) → All (λ x. g x ≡ h x) xs → flat_map g xs ≡ flat_map h xs
+  pub joined_cong : (g h : X → List A) (xs : List X) → AllByRecursion (λ x. g x ≡ h x) xs → flat_map g xs ≡ flat_map h xs
   joined_cong g h [] a = refl
   joined_cong g h (x ∷ xs) a = ap₂ (λ (y z : List A). y ++ z) a.0 (joined_cong g h xs a.1)
 
-  pub joined_none : (g : X → List A) (xs : List X) → All (λ x. g x ≡ []) xs → flat_map g xs ≡ []
+  pub joined_none : (g : X → List A) (xs : List X) → AllByRecursion (λ x. g x ≡ []) xs → flat_map g xs ≡ []
   joined_none g [] a = refl
   joined_none g (x ∷ xs) a = ap₂ (λ (y z : List A). y ++ z) a.0 (joined_none g xs a.1)
 
-  pub joined_all : (P : A → Type 0) (g : X → List A) (xs : List X) → All (λ x. All P (g x)) xs → All P (flat_map g xs)
+  pub joined_all : (P : A → Type 0) (g : X → List A) (xs : List X) → AllByRecursion (λ x. AllByRecursion P (g x)) xs → AllByRecursion P (flat_map g xs)
   joined_all P g [] a = tt
   joined_all P g (x ∷ xs) a = All-append P (g x) (flat_map g xs) a.0 (joined_all P g xs a.1)
 

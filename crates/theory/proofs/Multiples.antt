@@ -1,7 +1,7 @@
 -- Laws of gcd and lcm, and of the least number that all parts divide. Assumes nothing.
 use Rattle.std.proofs.Common.{◌≡◌, ℕ, zero, suc, ◌+◌, ◌-◌, ◌*◌, ◌/◌, ◌%◌, ◌<◌, ◌≤◌, Bool, true, false, cond, ◌&&◌, eqb, ltb, ◌≢◌, List, [], ◌∷◌, ◌++◌, sym, refl, ap, ◌∙◌, subst, ap₂, ⊎_elim, mod-lt, div-add-mod', arith}
 use native.Mathlib.Nat.{eq_of_mul-eq-mul_left, div-add-mod, mod-eq-sub-mul-div, mul-sub, mul-div_right, mul-mod_right}
-use Rattle.std.specs.List.{AllByRecursion as All}
+use Rattle.std.specs.List.{AllByRecursion}
 use Rattle.std.proofs.lemmas.Bool.{cases_eq, and_parts, and_from, ltb-true, ltb-false, lt-ltb, le-ltb, eqb-true, eq-eqb, cond-true, cond-false, cond_both}
 use Rattle.law.specs.Family.{Family, line_lives, Part, line_parts, repeated}
 use Rattle.law.specs.Calls.{gcd_in, gcd, common_multiple, divides_all}
@@ -42,12 +42,12 @@ divides_test k n p = eq-eqb (n % k) 0 (ap (λ (z : ℕ). z % k) p.1 ∙ mul-mod_
 pub test_divides : (k n : ℕ) → eqb (n % k) 0 ≡ true → Divides k n
 test_divides k n h = (n / k, let e : n / k * k ≡ n = whole_pieces n k h in omega arith)
 
-pub divides_all_each : (n : ℕ) (ps : List Part) → divides_all n ps ≡ true → All (λ q. Divides q.by n) ps
+pub divides_all_each : (n : ℕ) (ps : List Part) → divides_all n ps ≡ true → AllByRecursion (λ q. Divides q.by n) ps
 unfolding divides_all
 divides_all_each n [] h = tt
 divides_all_each n (p ∷ ps) h = let r = and_parts (eqb (n % p.by) 0) (divides_all n ps) h in (test_divides p.by n r.0, divides_all_each n ps r.1)
 
-pub each_divides_all : (n : ℕ) (ps : List Part) → All (λ q. Divides q.by n) ps → divides_all n ps ≡ true
+pub each_divides_all : (n : ℕ) (ps : List Part) → AllByRecursion (λ q. Divides q.by n) ps → divides_all n ps ≡ true
 unfolding divides_all
 each_divides_all n [] a = refl
 each_divides_all n (p ∷ ps) a = and_from (eqb (n % p.by) 0) (divides_all n ps) (divides_test p.by n a.0) (each_divides_all n ps a.1)

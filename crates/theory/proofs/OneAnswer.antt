@@ -1,6 +1,6 @@
 -- There is just one row of shares in lowest terms that is as the parts are. Assumes nothing.
 use Rattle.std.proofs.Common.{◌≡◌, ℕ, ◌<◌, ◌≤◌, true, ◌&&◌, eqb, ltb, ◌≢◌, List, [], ◌∷◌, sym, refl, ap, ◌∙◌, ap₂, ⊎_elim, arith}
-use Rattle.std.specs.List.{AllByRecursion as All}
+use Rattle.std.specs.List.{AllByRecursion}
 use Rattle.std.proofs.lemmas.Bool.{cases_order, cases_eq, and_parts, ltb-true, eq-eqb, ne_eqb, cond-true, cond-false}
 use Rattle.law.specs.Family.{Part}
 use Rattle.law.specs.Calls.{Share, in_order, share_of, as_parts, common_multiple, divides_all, pieces}
@@ -117,6 +117,6 @@ unfolding JustOne
 just_one ps n ss ts h d p q = one_answer ps n ss ts h d p q
 
 -- pieces of any number that all parts divide, of anybody below any bound, come to the same shares
-pub shares_by : (n m : ℕ) (ps : List Part) → 0 < n → divides_all n ps ≡ true → All (λ q. q.who < m) ps → common_multiple ps 1 ≢ 0
+pub shares_by : (n m : ℕ) (ps : List Part) → 0 < n → divides_all n ps ≡ true → AllByRecursion (λ q. q.who < m) ps → common_multiple ps 1 ≢ 0
     → shares_from n (pieces n ps) 0 m ≡ shares_of ps
 shares_by n m ps l h a z = one_answer ps n (shares_from n (pieces n ps) 0 m) (shares_of ps) l h (shares_as_parts n m ps l h a) (shares_right ps z)

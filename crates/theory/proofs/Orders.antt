@@ -1,6 +1,6 @@
 -- Two families in which the same lines live: what holds between their lines holds between their orders and estates. Assumes nothing.
 use Rattle.std.proofs.Common.{◌≡◌, ℕ, zero, suc, ◌-◌, ◌*◌, ◌<◌, Bool, true, false, cond, not, eqb, ◌≢◌, ◌⊎◌, List, [], ◌∷◌, ◌++◌, length, filter, sym, refl, ap, ◌∙◌, subst, inl, inr, ⊎_elim}
-use Rattle.std.specs.List.{flat_map, AllByRecursion as All}
+use Rattle.std.specs.List.{flat_map, AllByRecursion}
 use Rattle.std.proofs.ByRecursion.{All-weaker, all_kept_by}
 use Rattle.std.proofs.lemmas.Bool.{eqb-true, eqb-false, cond_both}
 use Rattle.law.specs.Family.{person, Family, line_lives, living_lines, Part, line_parts, parents, couple_parts, first_order, second_order, side_lives, living_sides, third_order, order, relatives_parts, has_living_spouse, spouse_parts, repeated, estate}
@@ -74,7 +74,7 @@ module _ (f g : Family) (d e : ℕ) (A : (p : ℕ) → line_lives g e p ≡ line
   unfolding side_lives
   side_same p h = ap (λ (ws : List ℕ). not (eqb (length ws) 0)) (living_same (parents g p) ∙ ap (λ (ps : List ℕ). living_lines f d ps) h)
 
-  pub sides_same : (x : ℕ) → parents g x ≡ parents f x → All (λ p. parents g p ≡ parents f p) (parents f x) → sides_of g e x ≡ sides_of f d x
+  pub sides_same : (x : ℕ) → parents g x ≡ parents f x → AllByRecursion (λ p. parents g p ≡ parents f p) (parents f x) → sides_of g e x ≡ sides_of f d x
   sides_same x h a =
       ap (λ (ps : List ℕ). filter (λ p. side_lives g e p) ps) h
       ∙ kept_cong (λ p. side_lives g e p) (λ p. side_lives f d p) (parents f x)
@@ -82,7 +82,7 @@ module _ (f g : Family) (d e : ℕ) (A : (p : ℕ) → line_lives g e p ≡ line
 
 -- a relation between rows of parts that empty rows have, and rows joined of such that have it
 module _ (R : List Part → List Part → Type 0) (none : R [] []) (join : (a b c e : List Part) → R a b → R c e → R (a ++ c) (b ++ e)) where
-  pub joined_alike : {X : Type 0} (h k : X → List Part) (xs : List X) → All (λ x. R (h x) (k x)) xs → R (flat_map h xs) (flat_map k xs)
+  pub joined_alike : {X : Type 0} (h k : X → List Part) (xs : List X) → AllByRecursion (λ x. R (h x) (k x)) xs → R (flat_map h xs) (flat_map k xs)
   joined_alike h k [] a = none
   joined_alike h k (x ∷ xs) a = join (h x) (k x) (flat_map h xs) (flat_map k xs) a.0 (joined_alike h k xs a.1)
 
@@ -124,7 +124,7 @@ module _ (R : List Part → List Part → Type 0) (none : R [] []) (join : (a b 
         (all_any (λ p. R (line_parts f d p (b * length (living_lines f d ps))) (line_parts g e p (b * length (living_lines f d ps)))) (λ p. L p (b * length (living_lines f d ps)))
         (living_lines f d ps)))
 
-    pub third_alike : (x b : ℕ) → parents g x ≡ parents f x → All (λ p. parents g p ≡ parents f p) (parents f x) → R (third_of f d x b) (third_of g e x b)
+    pub third_alike : (x b : ℕ) → parents g x ≡ parents f x → AllByRecursion (λ p. parents g p ≡ parents f p) (parents f x) → R (third_of f d x b) (third_of g e x b)
     third_alike x b h a =
         let k = b * length (sides_of f d x) in
         subst (λ (ws : List ℕ). R (third_of f d x b) (flat_map (λ p. couple_parts g e (parents g p) (b * length ws)) ws)) (sym (sides_same f g d e A x h a))
@@ -135,7 +135,7 @@ module _ (R : List Part → List Part → Type 0) (none : R [] []) (join : (a b 
 
   -- the same decedent in both
   module _ (f g : Family) (d : ℕ) (A : (p : ℕ) → line_lives g d p ≡ line_lives f d p) (L : (p b : ℕ) → R (line_parts f d p b) (line_parts g d p b))
-      (P : parents g d ≡ parents f d) (Q : All (λ p. parents g p ≡ parents f p) (parents f d)) (C : lines_below g d d ≡ lines_below f d d)
+      (P : parents g d ≡ parents f d) (Q : AllByRecursion (λ p. parents g p ≡ parents f p) (parents f d)) (C : lines_below g d d ≡ lines_below f d d)
       (H : has_living_spouse g d ≡ has_living_spouse f d) (S : (person g d).spouse ≡ (person f d).spouse)
       (T : has_living_spouse f d ≡ true → (b : ℕ) → R (spouse_parts f d b) (spouse_parts f d b)) where
     order_same : order g d ≡ order f d

@@ -1,7 +1,7 @@
 -- Rows of parts: what they come to together, and that a living line has just what it was given. Assumes nothing.
 use Rattle.std.proofs.Common.{◌≡◌, ℕ, zero, suc, ◌+◌, ◌-◌, ◌*◌, ◌/◌, ◌%◌, ◌<◌, ◌≤◌, Bool, true, false, cond, not, ◌&&◌, ◌||◌, eqb, ◌≢◌, List, [], ◌∷◌, ◌++◌, length, sym, refl, ap, ◌∙◌, subst, ⊎_elim, div-add-mod', arith}
 use native.Mathlib.Nat.{eq_of_mul-eq-mul_right}
-use Rattle.std.specs.List.{flat_map, AllByRecursion as All}
+use Rattle.std.specs.List.{flat_map, AllByRecursion}
 use Rattle.std.proofs.lemmas.List.{length-append}
 use Rattle.std.proofs.ByRecursion.{All-weaker, All-append, kept_by_passes}
 use Rattle.std.proofs.lemmas.Bool.{and_parts, and_from, eqb-true, both_ways, cases_Bool, cases_eq, cond-false, cond_both}
@@ -48,7 +48,7 @@ pieces_le_all n (p ∷ ps) w =
     cond_both (eqb p.who w) (n / p.by) 0 (λ (x : ℕ). x + pieces n ps w ≤ n / p.by + all_pieces n ps) (λ _. omega arith) (λ _. omega arith)
 
 -- a row so many times over
-pub repeated_all : (P : Part → Type 0) (k : ℕ) (ps : List Part) → All P ps → All P (repeated k ps)
+pub repeated_all : (P : Part → Type 0) (k : ℕ) (ps : List Part) → AllByRecursion P ps → AllByRecursion P (repeated k ps)
 unfolding repeated
 repeated_all P zero ps a = tt
 repeated_all P (suc k) ps a = All-append P ps (repeated k ps) a (repeated_all P k ps a)
@@ -78,7 +78,7 @@ all_pieces_repeated n zero ps = omega arith
 all_pieces_repeated n (suc k) ps = let e = all_pieces_repeated n k ps in omega (arith, all_pieces_append n ps (repeated k ps))
 
 -- rows joined
-pub divides_joined : {X : Type 0} (n : ℕ) (g : X → List Part) (xs : List X) → divides_all n (flat_map g xs) ≡ true → All (λ x. divides_all n (g x) ≡ true) xs
+pub divides_joined : {X : Type 0} (n : ℕ) (g : X → List Part) (xs : List X) → divides_all n (flat_map g xs) ≡ true → AllByRecursion (λ x. divides_all n (g x) ≡ true) xs
 divides_joined n g [] h = tt
 divides_joined n g (x ∷ xs) h = let r = divides_both n (g x) (flat_map g xs) h in (r.0, divides_joined n g xs r.1)
 
@@ -100,7 +100,7 @@ adds_some b [] h = absurd (let e = h refl in omega arith)
 adds_some b (q ∷ qs) h = omega arith
 
 -- rows that each come to the same
-even_rows : {X : Type 0} (n k : ℕ) (g : X → List Part) (xs : List X) → All (λ x. AddsTo n k (g x)) xs → divides_all n (flat_map g xs) ≡ true
+even_rows : {X : Type 0} (n k : ℕ) (g : X → List Part) (xs : List X) → AllByRecursion (λ x. AddsTo n k (g x)) xs → divides_all n (flat_map g xs) ≡ true
     → all_pieces n (flat_map g xs) * k ≡ length xs * n
 unfolding all_pieces
 even_rows n k g [] a h = omega arith
@@ -110,7 +110,7 @@ even_rows n k g (x ∷ xs) a h =
     let z : all_pieces n (flat_map g xs) * k ≡ length xs * n = even_rows n k g xs a.1 r.1 in
     rw (all_pieces_append n (g x) (flat_map g xs)) (omega arith)
 
-pub joined_adds : {X : Type 0} (n b : ℕ) (g : X → List Part) (xs : List X) → 0 < length xs → All (λ x. AddsTo n (b * length xs) (g x)) xs → AddsTo n b (flat_map g xs)
+pub joined_adds : {X : Type 0} (n b : ℕ) (g : X → List Part) (xs : List X) → 0 < length xs → AllByRecursion (λ x. AddsTo n (b * length xs) (g x)) xs → AddsTo n b (flat_map g xs)
 joined_adds n b g xs l a h =
     let e : all_pieces n (flat_map g xs) * (b * length xs) ≡ length xs * n = even_rows n (b * length xs) g xs a h in
     eq_of_mul-eq-mul_right (length xs) l (all_pieces n (flat_map g xs) * b) n (omega arith)
@@ -119,11 +119,11 @@ joined_adds n b g xs l a h =
 abbrev pub Positive : Part → Type 0
 Positive q = 0 < q.by
 
-pub joined_positive : {X : Type 0} (b : ℕ) (g : ℕ → X → List Part) (xs : List X) → 0 < b → ((k : ℕ) → 0 < k → (x : X) → All Positive (g k x)) → All Positive (flat_map (g (b * length xs)) xs)
+pub joined_positive : {X : Type 0} (b : ℕ) (g : ℕ → X → List Part) (xs : List X) → 0 < b → ((k : ℕ) → 0 < k → (x : X) → AllByRecursion Positive (g k x)) → AllByRecursion Positive (flat_map (g (b * length xs)) xs)
 joined_positive b g [] l h = tt
 joined_positive b g (x ∷ xs) l h =
     let k = b * length (x ∷ xs) in
-    joined_all Positive (g k) (x ∷ xs) (all_any (λ y. All Positive (g k y)) (λ y. h k (times b (length xs) l) y) (x ∷ xs))
+    joined_all Positive (g k) (x ∷ xs) (all_any (λ y. AllByRecursion Positive (g k y)) (λ y. h k (times b (length xs) l) y) (x ∷ xs))
   where
     times : (b n : ℕ) → 0 < b → 0 < b * suc n
     times b n l = omega arith
@@ -157,12 +157,12 @@ half n w ps h e =
     omega arith
 
 -- no part's number is 0
-positive_in : (f : Family) (d n p b : ℕ) → 0 < b → All Positive (line_parts_in n f d p b)
+positive_in : (f : Family) (d n p b : ℕ) → 0 < b → AllByRecursion Positive (line_parts_in n f d p b)
 unfolding line_parts_in
 positive_in f d zero p b l = tt
 positive_in f d (suc n) p b l =
     cond_both (not (eqb p d) && (person f p).lives) (record { who = p; by = b } ∷ [])
-    (flat_map (λ c. line_parts_in n f d c (b * length (lines_below f d p))) (lines_below f d p)) (All Positive) (λ _. (l, tt))
+    (flat_map (λ c. line_parts_in n f d c (b * length (lines_below f d p))) (lines_below f d p)) (AllByRecursion Positive) (λ _. (l, tt))
     (λ _. joined_positive b (λ k c. line_parts_in n f d c k) (lines_below f d p) l (λ k m c. positive_in f d n c k m))
 
 module _ {f : Family} {rk : ℕ → ℕ} (s : Ranked f rk) (d : ℕ) where
@@ -265,21 +265,21 @@ module _ {f : Family} {rk : ℕ → ℕ} (s : Ranked f rk) (d : ℕ) where
   pub line_some : (p b : ℕ) → line_lives f d p ≡ true → 0 < length (line_parts f d p b)
   line_some p b v = adds_some b (line_parts f d p b) (line_adds 1 p v b)
 
-pub line_positive : (f : Family) (d p b : ℕ) → 0 < b → All Positive (line_parts f d p b)
+pub line_positive : (f : Family) (d p b : ℕ) → 0 < b → AllByRecursion Positive (line_parts f d p b)
 line_positive f d p b l = positive_in f d (suc (length f)) p b l
 
-couple_positive : (f : Family) (d : ℕ) (ps : List ℕ) (b : ℕ) → 0 < b → All Positive (couple_parts f d ps b)
+couple_positive : (f : Family) (d : ℕ) (ps : List ℕ) (b : ℕ) → 0 < b → AllByRecursion Positive (couple_parts f d ps b)
 unfolding couple_parts
 couple_positive f d ps b l = joined_positive b (λ k p. line_parts f d p k) (living_lines f d ps) l (λ k m p. line_positive f d p k m)
 
-pub relatives_positive : (f : Family) (d b : ℕ) → 0 < b → All Positive (relatives_parts f d b)
+pub relatives_positive : (f : Family) (d b : ℕ) → 0 < b → AllByRecursion Positive (relatives_parts f d b)
 relatives_positive f d b l =
-    relatives_cases f d b (All Positive) (λ _ _. line_positive f d d b l) (λ _ _. couple_positive f d (parents f d) b l)
+    relatives_cases f d b (AllByRecursion Positive) (λ _ _. line_positive f d d b l) (λ _ _. couple_positive f d (parents f d) b l)
     (λ _ _. joined_positive b (λ k p. couple_parts f d (parents f p) k) (living_sides f d) l (λ k m p. couple_positive f d (parents f p) k m)) (λ _. tt)
 
-pub estate_positive : (f : Family) (d : ℕ) → All Positive (estate f d)
+pub estate_positive : (f : Family) (d : ℕ) → AllByRecursion Positive (estate f d)
 estate_positive f d =
-    estate_cases f d (All Positive) (λ _ _. (omega arith, repeated_all Positive 3 (relatives_parts f d 4) (relatives_positive f d 4 (omega arith)))) (λ _ _. (omega arith, tt))
+    estate_cases f d (AllByRecursion Positive) (λ _ _. (omega arith, repeated_all Positive 3 (relatives_parts f d 4) (relatives_positive f d 4 (omega arith)))) (λ _ _. (omega arith, tt))
     (λ _ _. (omega arith, relatives_positive f d 2 (omega arith))) (λ _. relatives_positive f d 1 (omega arith))
 
 pub adds_up_by_rank : AddsUpByRank

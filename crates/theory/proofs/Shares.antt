@@ -1,7 +1,7 @@
 -- The shares of parts are as the parts are, in lowest terms. Assumes nothing.
 use Rattle.std.proofs.Common.{◌≡◌, ℕ, zero, suc, ◌+◌, ◌*◌, ◌/◌, ◌%◌, ◌<◌, ◌≤◌, max, Bool, true, false, cond, ◌&&◌, eqb, ltb, ◌≢◌, ◌⊎◌, List, [], ◌∷◌, map, filter, sym, refl, ap, ◌∙◌, subst, inl, inr, ⊎_elim, arith}
 use native.Mathlib.Nat.{eq_of_mul-eq-mul_right}
-use Rattle.std.specs.List.{range_with_len, AllByRecursion as All}
+use Rattle.std.specs.List.{range_with_len, AllByRecursion}
 use Rattle.std.proofs.ByRecursion.{All-weaker, All-map, all_kept_by}
 use Rattle.std.proofs.lemmas.Bool.{cases_lt, cases_eq, and_parts, and_from, ltb-true, ltb-false, lt-ltb, eq-eqb, ne_eqb, cond-true, cond-false, cond_both}
 use Rattle.law.specs.Family.{Part}
@@ -41,24 +41,24 @@ pub as_parts_by : (n : ℕ) (ps : List Part) (ss : List Share) → 0 < n → div
 as_parts_by n ps ss l h o low e = (o, low, λ m w _ k. one_number n m w (share_of ss w).up (share_of ss w).down ps l h k (e w))
 
 -- nobody past all heirs has pieces
-pub above_all : (ps : List Part) → All (λ q. q.who < above ps) ps
+pub above_all : (ps : List Part) → AllByRecursion (λ q. q.who < above ps) ps
 unfolding above
 above_all [] = tt
 above_all (p ∷ ps) = (omega arith, All-weaker (λ q. q.who < above ps) (λ q. q.who < max (suc p.who) (above ps)) (λ q l. omega arith) ps (above_all ps))
 
-pub pieces_past : (m n w : ℕ) (ps : List Part) → All (λ q. q.who < m) ps → m ≤ w → pieces n ps w ≡ 0
+pub pieces_past : (m n w : ℕ) (ps : List Part) → AllByRecursion (λ q. q.who < m) ps → m ≤ w → pieces n ps w ≡ 0
 unfolding pieces
 pieces_past m n w [] a l = refl
 pieces_past m n w (p ∷ ps) a l = rw (ne_eqb p.who w (λ e. let z = a.0 in omega arith)) (let e = pieces_past m n w ps a.1 l in omega arith)
 
 -- who has no share
-none_of : (v : ℕ) (ss : List Share) → All (λ (t : Share). t.who ≢ v) ss → share_of ss v ≡ record { who = v; up = 0; down = 1 }
+none_of : (v : ℕ) (ss : List Share) → AllByRecursion (λ (t : Share). t.who ≢ v) ss → share_of ss v ≡ record { who = v; up = 0; down = 1 }
 unfolding share_of
 none_of v [] a = refl
 none_of v (s ∷ ss) a = cond-false (eqb s.who v) s (share_of ss v) (ne_eqb s.who v a.0) ∙ none_of v ss a.1
 
 -- an heir before the others
-order_cons : (s : Share) (ss : List Share) → 0 < s.up → 0 < s.down → All (λ (t : Share). s.who < t.who) ss → in_order ss ≡ true → in_order (s ∷ ss) ≡ true
+order_cons : (s : Share) (ss : List Share) → 0 < s.up → 0 < s.down → AllByRecursion (λ (t : Share). s.who < t.who) ss → in_order ss ≡ true → in_order (s ∷ ss) ≡ true
 unfolding in_order
 order_cons s [] u d a o = and_from (ltb 0 s.up) (ltb 0 s.down) (lt-ltb 0 s.up u) (lt-ltb 0 s.down d)
 order_cons s (t ∷ ts) u d a o =
@@ -67,7 +67,7 @@ order_cons s (t ∷ ts) u d a o =
     (and_from (ltb 0 s.down) (ltb s.who t.who) (lt-ltb 0 s.down d) (lt-ltb s.who t.who a.0))) o
 
 -- numbers in a row
-counting_all : (P : ℕ → Type 0) (a m : ℕ) → ((v : ℕ) → a ≤ v → v < a + m → P v) → All P (range_with_len a m)
+counting_all : (P : ℕ → Type 0) (a m : ℕ) → ((v : ℕ) → a ≤ v → v < a + m → P v) → AllByRecursion P (range_with_len a m)
 counting_all P a zero h = tt
 counting_all P a (suc m) h = (h a (omega arith) (omega arith), counting_all P (a + 1) m (λ v x y. h v (omega arith) (omega arith)))
 
@@ -82,7 +82,7 @@ module _ (n : ℕ) (l : 0 < n) (g : ℕ → ℕ) where
   fits_nothing : (w : ℕ) → g w ≡ 0 → Fits n (g w) (record { who = w; up = 0; down = 1 })
   fits_nothing w e = (omega arith, coprime_nothing)
 
-  shares_all : (P : Share → Type 0) (a m : ℕ) → ((v : ℕ) → a ≤ v → v < a + m → P (lowest_share n (g v) v)) → All P (shares_from n g a m)
+  shares_all : (P : Share → Type 0) (a m : ℕ) → ((v : ℕ) → a ≤ v → v < a + m → P (lowest_share n (g v) v)) → AllByRecursion P (shares_from n g a m)
   shares_all P a m h =
       All-map P (λ w. lowest_share n (g w) w) (filter (λ w. ltb 0 (g w)) (range_with_len a m))
       (all_kept_by (λ w. ltb 0 (g w)) (λ w. P (lowest_share n (g w) w)) (range_with_len a m) (counting_all (λ w. P (lowest_share n (g w) w)) a m h))
@@ -124,7 +124,7 @@ module _ (n : ℕ) (l : 0 < n) (g : ℕ → ℕ) where
       (λ (q : a ≡ v → ⊥). share_fits (a + 1) m v (omega arith) (omega arith)) (cases_eq a v))
 
 -- so they are as the parts are, by any number that all parts divide
-pub shares_as_parts : (n m : ℕ) (ps : List Part) → 0 < n → divides_all n ps ≡ true → All (λ q. q.who < m) ps → as_parts ps (shares_from n (pieces n ps) 0 m)
+pub shares_as_parts : (n m : ℕ) (ps : List Part) → 0 < n → divides_all n ps ≡ true → AllByRecursion (λ q. q.who < m) ps → as_parts ps (shares_from n (pieces n ps) 0 m)
 shares_as_parts n m ps l h a = as_parts_by n ps (shares_from n (pieces n ps) 0 m) l h (shares_order n l (pieces n ps) 0 m) (λ w. (fits w).1) (λ w. (fits w).0)
   where
     fits : (w : ℕ) → Fits n (pieces n ps w) (share_of (shares_from n (pieces n ps) 0 m) w)

@@ -1,6 +1,6 @@
 -- What holds of estates, said as strongly as it holds: of every family with a rank, and without what need not be asked. Assumes nothing: these are definitions.
 use Rattle.std.specs.Prelude.{◌≡◌, ℕ, suc, ◌*◌, ◌<◌, ◌≤◌, true, false, cond, ◌≢◌, List, [], ◌∷◌, ◌++◌, length, ◌==◌}
-use Rattle.std.specs.List.{flat_map, AllByRecursion as All}
+use Rattle.std.specs.List.{flat_map, AllByRecursion}
 use Rattle.law.specs.Family.{Person, person, Family, line_lives, Part, line_parts, order, has_living_spouse, estate}
 use Rattle.law.specs.Calls.{born, dies, Limits, after, divides_all, pieces, all_pieces}
 use Rattle.law.specs.Promise.{Reached, all_heirs}
@@ -15,7 +15,7 @@ AddsUpByRank =
 -- Every heir is there, lives, and is not the decedent.
 unfoldable pub HeirsAreThere : Type 0
 HeirsAreThere =
-    (f : Family) (d : ℕ) → WellFormed f → All (λ (q : Part). (q.who < length f) × ((person f q.who).lives ≡ true) × (q.who ≢ d)) (estate f d)
+    (f : Family) (d : ℕ) → WellFormed f → AllByRecursion (λ (q : Part). (q.who < length f) × ((person f q.who).lives ≡ true) × (q.who ≢ d)) (estate f d)
 
 -- One more person who does not live changes nobody's part; so neither does a birth and that child's death, whether they are taken or refused.
 unfoldable pub DeadPersonChangesNothing : Type 0

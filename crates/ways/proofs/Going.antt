@@ -1,6 +1,6 @@
 -- Going down lines: what one more line gives, and why going down stops. Assumes nothing.
 use Rattle.std.proofs.Common.{◌≡◌, ℕ, zero, suc, ◌+◌, ◌-◌, ◌*◌, ◌<◌, ◌≤◌, Bool, true, false, cond, ◌≢◌, ◌⊎◌, List, [], ◌∷◌, ◌++◌, map, length, get_or, take, drop, filter, sym, refl, ap, ◌∙◌, subst, inl, inr, ⊎_elim, arith}
-use Rattle.std.specs.List.{flat_map, AllByRecursion as All}
+use Rattle.std.specs.List.{flat_map, AllByRecursion}
 use Rattle.std.proofs.lemmas.List.{append_assoc, append-nil, length-append, take_more, take-append-drop, drop_more, map-append, length-map, take_all}
 use Rattle.std.proofs.ByRecursion.{All-get_or, all_kept_by}
 use Rattle.std.proofs.lemmas.Bool.{cases_eq, cases_Bool, both_ways, and_cases, not-false, eqb-true, or_cases, cond-true, cond-false}
@@ -115,9 +115,9 @@ module _ (f : Family) (d : ℕ) where
       let l = enough.1 in
       omega arith
 
-  pub enough_below : {rk : ℕ → ℕ} → Ranked f rk → (n p : ℕ) (cs : List ℕ) → cs ≡ living_lines f d (children f p) → Enough f rk d n p → 0 < n → All (Enough f rk d (n - 1)) cs
+  pub enough_below : {rk : ℕ → ℕ} → Ranked f rk → (n p : ℕ) (cs : List ℕ) → cs ≡ living_lines f d (children f p) → Enough f rk d n p → 0 < n → AllByRecursion (Enough f rk d (n - 1)) cs
   enough_below {rk} s n p cs e enough some =
-      subst (All (Enough f rk d (n - 1))) (sym e)
+      subst (AllByRecursion (Enough f rk d (n - 1))) (sym e)
       (all_both (λ c. is_child f p c ≡ true) (λ c. line_lives f d c ≡ true) (Enough f rk d (n - 1))
       (λ c k v. (v, let up = s.up p c k in let l = enough.1 in omega arith)) (lines_below f d p) (below_child f d p) (below_lives f d p))
 
@@ -128,7 +128,7 @@ module _ (f : Family) (d : ℕ) where
       subst TooLarge (sym (ways_forget (suc n) f d ys p b ∙ parts_enough s d (suc n) p b enough))
       (λ qs rs. ⊎_elim (λ e. e) (λ ne. absurd (too qs rs (lines_below f d p) (below_lives f d p) refl ne)) (cases_eq (common_multiple (qs ++ (line_parts f d p b ++ rs)) 1) 0))
     where
-      too : (qs rs : List Part) (cs : List ℕ) → All (λ c. line_lives f d c ≡ true) cs → lines_below f d p ≡ cs → common_multiple (qs ++ (line_parts f d p b ++ rs)) 1 ≢ 0 → ⊥
+      too : (qs rs : List Part) (cs : List ℕ) → AllByRecursion (λ c. line_lives f d c ≡ true) cs → lines_below f d p ≡ cs → common_multiple (qs ++ (line_parts f d p b ++ rs)) 1 ≢ 0 → ⊥
       too qs rs [] lives e ne = let z : b * length (lines_below f d p) ≡ 0 = ap (λ xs. b * length xs) e ∙ (let w : b * 0 ≡ 0 = omega arith in w) in omega arith
       too qs rs (c ∷ cs) lives e ne =
           let k = length (lines_below f d p) in

@@ -1,6 +1,6 @@
 -- Whose lines live, found by steps up. Assumes nothing.
 use Rattle.std.proofs.Common.{◌≡◌, ℕ, zero, suc, ◌+◌, ◌-◌, ◌<◌, ◌≤◌, Bool, true, false, cond, ◌&&◌, ◌||◌, eqb, List, [], ◌∷◌, map, length, get_or, replicate, sym, refl, ap, ◌∙◌, ⊎_elim, arith}
-use Rattle.std.specs.List.{range_with_len as counting, AllByRecursion as All}
+use Rattle.std.specs.List.{range_with_len as counting, AllByRecursion}
 use Rattle.std.proofs.lemmas.List.FromFn.{fill_by_all, get_or-map-range_with_len, length-map-range_with_len}
 use Rattle.std.proofs.lemmas.List.{length-replicate, get_or-replicate, get_or_past, length-map}
 use Rattle.std.proofs.ByRecursion.{All-weaker}
@@ -26,7 +26,7 @@ module _ (f : Family) (d : ℕ) where
   pub seen : ℕ → List Bool
   seen k = map (λ p. line_lives_in k f d p) (counting 0 (length f))
 
-  children_there : (p : ℕ) → All (λ c. c < length f) (children f p)
+  children_there : (p : ℕ) → AllByRecursion (λ c. c < length f) (children f p)
   children_there p = All-weaker (λ c. is_child f p c ≡ true) (λ c. c < length f) (λ c e. child_there f p c e) (children f p) (children_child f p)
 
   next_cong : (s t : ℕ → Bool) (p : ℕ) → ((c : ℕ) → c < length f → s c ≡ t c) → lives_next f d s p ≡ lives_next f d t p

@@ -1,6 +1,6 @@
 -- Going down lines: the ways that are put behind those that are there, or why going down stops. Assumes nothing: these are definitions.
 use Rattle.std.specs.Prelude.{◌≡◌, ℕ, suc, ◌+◌, ◌<◌, ◌≤◌, Bool, true, false, ◌⊎◌, List, [], ◌∷◌, ◌++◌, map, length}
-use Rattle.std.specs.List.{flat_map, AllByRecursion as All}
+use Rattle.std.specs.List.{flat_map, AllByRecursion}
 use Rattle.law.specs.Family.{Family, line_lives}
 use Rattle.theory.specs.Families.{Ranked}
 use Rattle.descent.specs.Going.{TooLarge}
@@ -21,7 +21,7 @@ Beyond before row = (4096 < length before + length row) ⊎ TooLarge (map way_pa
 -- All ways are put behind those that are there; or, of living lines in a family with a rank, they are too many or one of their numbers is too large.
 abbrev pub Went : Family → ℕ → ℕ → List ℕ → List ℕ → ℕ → List Way → List Way → Bool → Type 0
 Went f d n xs ps b before after true = after ≡ before ++ ways_below n f d xs ps b
-Went f d n xs ps b before after false = (rk : ℕ → ℕ) → Ranked f rk → All (Enough f rk d n) ps → Beyond before (ways_below n f d xs ps b)
+Went f d n xs ps b before after false = (rk : ℕ → ℕ) → Ranked f rk → AllByRecursion (Enough f rk d n) ps → Beyond before (ways_below n f d xs ps b)
 
 -- a row that says whose lines live, of every number
 abbrev pub Marks : Family → ℕ → (ℕ → Bool) → Type 0

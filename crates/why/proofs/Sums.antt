@@ -18,7 +18,7 @@ use Rattle.ways.proofs.Laws.{estate_pieces}
 use Rattle.reasons.specs.Estates.{lead_ways, DividedByWays}
 use Rattle.reasons.specs.declared.Estate.{Estate}
 use Rattle.why.specs.declared.Fraction.{Fraction}
-use Rattle.std.specs.List.{AllByRecursion as All}
+use Rattle.std.specs.List.{AllByRecursion}
 use Rattle.kinship.specs.Causes.{NoWay}
 use Rattle.why.specs.Explained.{LinePart, line_part, lowest_terms, ends_at, parts_to, ways_to, share_for, ways_held}
 use Rattle.why.proofs.Heirs.{parts_append}
@@ -65,11 +65,11 @@ sum_right f d w e h =
     ap₂ lowest_terms (ap₂ (λ (m : ℕ) rs. way_pieces m rs w) h.whole (held_ways f d e h) ∙ estate_pieces f d n w) h.whole ∙ share_lowest (estate f d) w (number_of_some (estate f d) h.within)
 
 -- where no way ends at somebody, none of the relatives' does
-none_ends : (u w : ℕ) (ws : List Way) → parts_to w (map (counted u) ws) ≡ [] → All (λ (x : Way). x.who ≢ w) ws
+none_ends : (u w : ℕ) (ws : List Way) → parts_to w (map (counted u) ws) ≡ [] → AllByRecursion (λ (x : Way). x.who ≢ w) ws
 none_ends u w [] e = tt
 none_ends u w (x ∷ xs) e = go (λ k. none_ends u w xs k) (cases_Bool (eqb x.who w))
   where
-    go : (parts_to w (map (counted u) xs) ≡ [] → All (λ (y : Way). y.who ≢ w) xs) → (eqb x.who w ≡ true) ⊎ (eqb x.who w ≡ false) → (x.who ≢ w) × All (λ (y : Way). y.who ≢ w) xs
+    go : (parts_to w (map (counted u) xs) ≡ [] → AllByRecursion (λ (y : Way). y.who ≢ w) xs) → (eqb x.who w ≡ true) ⊎ (eqb x.who w ≡ false) → (x.who ≢ w) × AllByRecursion (λ (y : Way). y.who ≢ w) xs
     go ih (inl t) = absurd (let z : ◌≡◌ {A = ℕ} 0 1 = cc (sym (ap (λ b. map line_part (cond b (counted u x ∷ filter (ends_at w) (map (counted u) xs)) (filter (ends_at w) (map (counted u) xs)))) t) ∙ e) in omega arith)
     go ih (inr t) =
         (eqb-false x.who w t, ih (sym (ap (λ b. map line_part (cond b (counted u x ∷ filter (ends_at w) (map (counted u) xs)) (filter (ends_at w) (map (counted u) xs)))) t) ∙ e))

@@ -4,7 +4,7 @@ use Rattle.std.proofs.lemmas.List.{append-nil, length-append, length-replicate, 
 use Rattle.std.proofs.lemmas.Nat.{mod-mul-add}
 use Rattle.std.proofs.ByRecursion.{All-append, All-take}
 use Rattle.std.proofs.lemmas.Bool.{cases_Bool, cond_both, ltb-true, ltb-false}
-use Rattle.std.specs.List.{flat_map, AllByRecursion as All}
+use Rattle.std.specs.List.{flat_map, AllByRecursion}
 use Rattle.law.specs.Calls.{Call, born, wed, parted, dies, estate_of, unreadable, call_number}
 use Rattle.wire.specs.Bytes.{le4, num4, row_bytes, call_bytes, call_with, call_size, read, is_byte, Begins, FirstMisfit, ReadsRightly}
 
@@ -22,7 +22,7 @@ bytes_back a b c d ha hb hc hd =
     let h : n / 16777216 % 256 ≡ d = ap (λ x. x % 256) r ∙ mod-mul-add 0 256 d hd in
     rw (e, f, g, h)
 
-one_back : (vs : List ℕ) → All is_byte vs → length vs ≡ 4 → flat_map le4 (num4 vs 0 ∷ []) ++ [] ≡ vs
+one_back : (vs : List ℕ) → AllByRecursion is_byte vs → length vs ≡ 4 → flat_map le4 (num4 vs 0 ∷ []) ++ [] ≡ vs
 one_back [] h l = absurd (omega arith)
 one_back (a ∷ []) h l = absurd (omega arith)
 one_back (a ∷ b ∷ []) h l = absurd (omega arith)
@@ -30,7 +30,7 @@ one_back (a ∷ b ∷ c ∷ []) h l = absurd (omega arith)
 one_back (a ∷ b ∷ c ∷ d ∷ []) h l = ap (λ r. (r ++ []) ++ []) (bytes_back a b c d h.0 h.1.0 h.1.1.0 h.1.1.1.0)
 one_back (a ∷ b ∷ c ∷ d ∷ e ∷ vs) h l = absurd (omega arith)
 
-two_back : (vs : List ℕ) → All is_byte vs → length vs ≡ 8 → flat_map le4 (num4 vs 0 ∷ num4 vs 4 ∷ []) ++ [] ≡ vs
+two_back : (vs : List ℕ) → AllByRecursion is_byte vs → length vs ≡ 8 → flat_map le4 (num4 vs 0 ∷ num4 vs 4 ∷ []) ++ [] ≡ vs
 two_back (a ∷ b ∷ c ∷ d ∷ vs) h l =
     ap (λ r. (r ++ (le4 (num4 vs 0) ++ [])) ++ []) (bytes_back a b c d h.0 h.1.0 h.1.1.0 h.1.1.1.0)
     ∙ ap (λ r. a ∷ b ∷ c ∷ d ∷ r) (one_back vs h.1.1.1.1 (omega arith))
@@ -40,7 +40,7 @@ two_back (a ∷ b ∷ []) h l = absurd (omega arith)
 two_back (a ∷ b ∷ c ∷ []) h l = absurd (omega arith)
 
 -- a row that is as long as its first byte says is its call's bytes
-whole_back : (bs : List ℕ) → All is_byte bs → get_or bs 0 0 < 5 → length bs ≡ call_size (get_or bs 0 0)
+whole_back : (bs : List ℕ) → AllByRecursion is_byte bs → get_or bs 0 0 < 5 → length bs ≡ call_size (get_or bs 0 0)
     → (call_number (call_with (get_or bs 0 0) (num4 bs 1) (num4 bs 5)) < 5) × (call_bytes (call_with (get_or bs 0 0) (num4 bs 1) (num4 bs 5)) ≡ bs)
 unfolding call_bytes call_number row_bytes
 whole_back [] h k l = absurd (omega arith)
@@ -98,7 +98,7 @@ begun_first c bs rest n h e =
     ∙ (get_or_append_left (take (suc n) bs) rest 0 0 (omega (arith, length-take-le (suc n) bs (omega arith))) ∙ get_or-take (suc n) bs 0 0 (omega arith)))
 
 -- a call begins with a row that is too short, filled up with zeros
-zeros : (n : ℕ) → All is_byte (replicate n 0)
+zeros : (n : ℕ) → AllByRecursion is_byte (replicate n 0)
 zeros zero = tt
 zeros (suc n) = (omega arith, zeros n)
 
@@ -107,7 +107,7 @@ filled_first [] zero = refl
 filled_first [] (suc n) = refl
 filled_first (b ∷ bs) n = refl
 
-short_begins : (bs : List ℕ) → All is_byte bs → get_or bs 0 0 < 5 → length bs < call_size (get_or bs 0 0) → Begins bs
+short_begins : (bs : List ℕ) → AllByRecursion is_byte bs → get_or bs 0 0 < 5 → length bs < call_size (get_or bs 0 0) → Begins bs
 short_begins bs h k l =
     let n = call_size (get_or bs 0 0) - length bs in
     let f = filled_first bs n in
@@ -117,7 +117,7 @@ short_begins bs h k l =
     in
     (call_with (get_or (bs ++ replicate n 0) 0 0) (num4 (bs ++ replicate n 0) 1) (num4 (bs ++ replicate n 0) 5), replicate n 0, w.0, w.1)
 
-long_begins : (bs : List ℕ) (n : ℕ) → All is_byte bs → get_or bs 0 0 < 5 → n ≡ call_size (get_or bs 0 0) → 0 < n → n ≤ length bs → Begins (take n bs)
+long_begins : (bs : List ℕ) (n : ℕ) → AllByRecursion is_byte bs → get_or bs 0 0 < 5 → n ≡ call_size (get_or bs 0 0) → 0 < n → n ≤ length bs → Begins (take n bs)
 long_begins bs n h k e z l =
     let f = get_or-take n bs 0 0 z in
     let w = whole_back (take n bs) (All-take is_byte n bs h) (omega arith) (length-take-le n bs l ∙ (e ∙ ap call_size (sym f))) in

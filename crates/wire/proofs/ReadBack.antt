@@ -1,6 +1,6 @@
 -- The bytes of calls and of answers are read back as those calls and answers. Assumes nothing.
 use Rattle.std.proofs.Common.{◌≡◌, ℕ, zero, suc, ◌+◌, ◌*◌, ◌<◌, Bool, true, false, cond, ◌&&◌, eqb, List, [], ◌∷◌, ◌++◌, length, get_or, Some, None, sym, refl, ap, ◌∙◌, arith}
-use Rattle.std.specs.List.{flat_map, AllByRecursion as All, slice_get}
+use Rattle.std.specs.List.{flat_map, AllByRecursion, slice_get}
 use Rattle.std.proofs.lemmas.List.{append_assoc, length-append}
 use Rattle.std.proofs.lemmas.Bool.{and_parts, eqb-true, eq-eqb}
 use Rattle.law.specs.Calls.{born, wed, parted, dies, estate_of, unreadable, call_number, Share, refused, number, shares}
@@ -35,7 +35,7 @@ share_behind pre bs i e =
     let d = num8_behind pre bs (i + 12) 12 (omega arith) in
     rw (w, u, d)
 
-shares_back : (pre : List ℕ) (ss : List Share) (i : ℕ) → i ≡ length pre → All share_fits ss → shares_from (pre ++ flat_map share_bytes ss) i (length ss) ≡ ss
+shares_back : (pre : List ℕ) (ss : List Share) (i : ℕ) → i ≡ length pre → AllByRecursion share_fits ss → shares_from (pre ++ flat_map share_bytes ss) i (length ss) ≡ ss
 unfolding shares_from
 shares_back pre [] i e h = refl
 shares_back pre (s ∷ ss) i e h =
@@ -55,7 +55,7 @@ count_back : (k : ℕ) (ss : List Share) → k < 4294967296 → num4 (shares_beg
 unfolding row_bytes le4
 count_back k ss h = num4_le4 k h
 
-begun_back : (k : ℕ) (ss : List Share) → k ≡ length ss → k < 4294967296 → All share_fits ss → answer_read (shares_begun k ss) ≡ Some (shares ss)
+begun_back : (k : ℕ) (ss : List Share) → k ≡ length ss → k < 4294967296 → AllByRecursion share_fits ss → answer_read (shares_begun k ss) ≡ Some (shares ss)
 unfolding row_bytes le4
 begun_back k ss e h f =
     shares_read (shares_begun k ss) k (kind_back k ss) (count_back k ss h) (omega (arith, length-begun k ss))

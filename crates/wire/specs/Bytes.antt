@@ -1,6 +1,6 @@
 -- Calls and answers as bytes: what a row of bytes is, and which bytes say an answer. Assumes nothing: these are definitions.
 use Rattle.std.specs.Prelude.{◌≡◌, ℕ, zero, suc, ◌+◌, ◌*◌, ◌/◌, ◌%◌, ◌<◌, ◌≤◌, Bool, cond, ◌&&◌, List, [], ◌∷◌, ◌++◌, map, length, take, Some, None, Ok, Err, Option, Result, ◌==◌, nat_le, nat_lt, slice_index}
-use Rattle.std.specs.List.{flat_map, AllByRecursion as All, slice_get}
+use Rattle.std.specs.List.{flat_map, AllByRecursion, slice_get}
 use Rattle.rows.specs.Written.{written}
 use Rattle.law.specs.Calls.{Call, born, wed, parted, dies, estate_of, unreadable, call_number, Share, Answer, refused, number, shares}
 use Rattle.wire.specs.declared.Request.{Request}
@@ -184,11 +184,11 @@ share_fits s = (s.who < 4294967296) × (s.up < 18446744073709551616) × (s.down 
 
 -- The bytes of a call are that call, and as many as its first byte says.
 abbrev pub CallsReadBack : Type 0
-CallsReadBack = (c : Call) → call_number c < 5 → All is_word (call_values c) → (read (call_bytes c) ≡ c) × (call_length (call_number c) ≡ Some (length (call_bytes c)))
+CallsReadBack = (c : Call) → call_number c < 5 → AllByRecursion is_word (call_values c) → (read (call_bytes c) ≡ c) × (call_length (call_number c) ≡ Some (length (call_bytes c)))
 
 -- The bytes of an answer are that answer.
 abbrev pub AnswersReadBack : Type 0
-AnswersReadBack = (a : Answer) → All is_word (answer_values a) → All share_fits (answer_shares a) → answer_read (answer_bytes a) ≡ Some a
+AnswersReadBack = (a : Answer) → AllByRecursion is_word (answer_values a) → AllByRecursion share_fits (answer_shares a) → answer_read (answer_bytes a) ≡ Some a
 
 -- A call begins with these bytes. The place of the first byte that doesn't fit: a call begins with those before it, and none with that one as well.
 abbrev pub Begins : List ℕ → Type 0
@@ -200,5 +200,5 @@ FirstMisfit bs p = (p ≤ length bs) × Begins (take p bs) × (p < length bs →
 -- Bytes that are read as a call are that call's; all others are unreadable at the first that doesn't fit.
 abbrev pub ReadsRightly : Type 0
 ReadsRightly =
-    (bs : List ℕ) → All is_byte bs →
+    (bs : List ℕ) → AllByRecursion is_byte bs →
     (call_number (read bs) < 5 → call_bytes (read bs) ≡ bs) × ((p : ℕ) → read bs ≡ unreadable p → FirstMisfit bs p)

@@ -1,5 +1,5 @@
 use Rattle.std.proofs.Common.{◌≡◌, ℕ, ◌+◌, ◌-◌, ◌*◌, ◌<◌, ◌≤◌, true, ◌⊎◌, List, ◌++◌, length, take, drop, Some, sym, refl, ap, ◌∙◌, subst, inl, inr, ⊎_elim, arith}
-use Rattle.std.specs.List.{AllByRecursion as All}
+use Rattle.std.specs.List.{AllByRecursion}
 use Rattle.std.proofs.lemmas.List.{take_all}
 use Rattle.law.specs.Family.{Person, Family, Part, person, children, line_parts}
 use Rattle.theory.specs.Living.{alive}
@@ -104,7 +104,7 @@ loop-turn-preserved t c =
           let inv = c.loop-turn.invariant.2 n f rk ps spare rest ready in
           let walk = walk_child f who i c.loop-turn.link child inv.0 met.0 in
           let lives = c.lives.ensures.value n (length f) f (alive f) (work_of n (ps ++ xs) no_member no_pieces spare) rest inv.1 in
-          let more : (c.if-lives.memory ≡ with_parts n f (ps ++ ys) spare rest) × (c.if-lives.at ≡ length ps + length ys) × (c.if-lives.at ≤ 4096) × All Small ys =
+          let more : (c.if-lives.memory ≡ with_parts n f (ps ++ ys) spare rest) × (c.if-lives.at ≡ length ps + length ys) × (c.if-lives.at ≤ 4096) × AllByRecursion Small ys =
           elim c.if-lives.branch [
             | then-lives+in-Some-line w ↦
                 let g =
@@ -120,7 +120,7 @@ loop-turn-preserved t c =
                   w.memory-is ∙ inv.1 ∙ ap (λ r. with_parts n f (ps ++ r) spare rest) (sym same),
                   w.at-is ∙ inv.2 ∙ ap (λ r. length ps + length r) (sym same),
                   subst (λ k. k ≤ 4096) (sym w.at-is) inv.3,
-                  subst (All Small) (sym same) inv.4,
+                  subst (AllByRecursion Small) (sym same) inv.4,
                 )
           ] in (
             c.next_child-link.ensures.value n (length f) f (alive f) (work_of n (ps ++ ys) no_member no_pieces spare) rest more.0
@@ -137,12 +137,12 @@ ended :
     (n : ℕ) (f : Family) (rk : ℕ → ℕ) (ps : List Part) (spare rest : List ℕ) (who by each turn link at : ℕ) (mem : List ℕ) (row : List Part) → length f ≤ n →
     row ≡ parts_below f each (children f who) → link ≡ first_of (drop turn (children f who)) → (length f ≤ turn) ⊎ ((link ≡ 0) ⊎ (n < link)) →
     mem ≡ with_parts n f (ps ++ parts_below f each (take turn (children f who))) spare rest → at ≡ length ps + length (parts_below f each (take turn (children f who))) → at ≤ 4096 →
-    All Small (parts_below f each (take turn (children f who))) → Gone n f spare rest ps row mem (Some at)
+    AllByRecursion Small (parts_below f each (take turn (children f who))) → Gone n f spare rest ps row mem (Some at)
 ended n f rk ps spare rest who by each turn link at mem row room is inv end e long few small =
     let all : parts_below f each (take turn (children f who)) ≡ row =
     ap (λ xs. parts_below f each xs) (take_all turn (children f who) (walk_all f who turn n link room inv end)) ∙ sym is in
     let same : length (parts_below f each (take turn (children f who))) ≡ length row = ap length all in
-    (omega arith, omega arith, e ∙ ap (λ r. with_parts n f (ps ++ r) spare rest) all, subst (All Small) all small)
+    (omega arith, omega arith, e ∙ ap (λ r. with_parts n f (ps ++ r) spare rest) all, subst (AllByRecursion Small) all small)
 
 pub returns-after-loop-turn : goal.returns-after-loop-turn
 returns-after-loop-turn t c =

@@ -1,5 +1,5 @@
 use Rattle.std.proofs.Common.{◌≡◌, ℕ, ◌+◌, ◌≤◌, List, ◌++◌, length, take, drop}
-use Rattle.std.specs.List.{AllByRecursion as All}
+use Rattle.std.specs.List.{AllByRecursion}
 use Rattle.law.specs.Family.{Family, Part, children}
 use Rattle.children.specs.Links.{first_of}
 use Rattle.people.specs.Layout.{limit_in, count_in}
@@ -16,4 +16,4 @@ invariant-loop-turn l =
     (l.link ≡ first_of (drop l.turn (children f l.who)))
     × (l.memory ≡ with_parts n f (ps ++ parts_below f l.each (take l.turn (children f l.who))) spare rest)
     × (l.at ≡ length ps + length (parts_below f l.each (take l.turn (children f l.who))))
-    × (l.at ≤ 4096) × All Small (parts_below f l.each (take l.turn (children f l.who))))
+    × (l.at ≤ 4096) × AllByRecursion Small (parts_below f l.each (take l.turn (children f l.who))))

@@ -1,5 +1,5 @@
 use Rattle.std.proofs.Common.{◌≡◌, ℕ, ◌+◌, ◌<◌, eqb, [], ◌∷◌, sym, refl, ap, ◌∙◌, subst, arith}
-use Rattle.std.specs.List.{AllByRecursion as All}
+use Rattle.std.specs.List.{AllByRecursion}
 use Rattle.std.proofs.lemmas.Bool.{cond-true, eq-eqb}
 use Rattle.law.specs.Family.{Part}
 use Rattle.shares.specs.Parts.{law_part, lead_parts}
@@ -14,7 +14,7 @@ returns-in-Some c =
       left = λ m ps amounts all rest held there sum small.
           let q = law_part c.in-Some.part in
           let lead = ap lead_parts c.in-Some.is in
-          let who = subst (All (λ (p : Part). p.who < c.args.persons)) lead there in
+          let who = subst (AllByRecursion (λ (p : Part). p.who < c.args.persons)) lead there in
           let more = c.amount.result in
           let same = first_added amounts all c.args.number more q (lead_parts c.args.lead) lead c.amount.ensures.value sum in
           let own : amounts q.who + more ≡ all q.who =

@@ -1,5 +1,5 @@
 use Rattle.std.proofs.Common.{◌≡◌, ℕ, ◌+◌, ◌-◌, ◌*◌, ◌<◌, ◌≤◌, List, ◌++◌, length, Some, None, sym, refl, ap, ◌∙◌, subst, arith}
-use Rattle.std.specs.List.{AllByRecursion as All}
+use Rattle.std.specs.List.{AllByRecursion}
 use Rattle.std.proofs.lemmas.Bool.{cond-false}
 use Rattle.law.specs.Family.{Part}
 use Rattle.law.specs.Calls.{pieces}
@@ -56,11 +56,11 @@ returns c =
           let start : at ≡ 130 + 8 * n = omega arith in
           let few = kept_starts_few f d (relatives_number f d) in
           let room = t.room in
-          let there : All (λ (q : Part). q.who < count_in ws) row = subst (λ m. All (λ (q : Part). q.who < m) row) (sym k) (row_sound f n d t).there in
+          let there : AllByRecursion (λ (q : Part). q.who < count_in ws) row = subst (λ m. AllByRecursion (λ (q : Part). q.who < m) row) (sym k) (row_sound f n d t).there in
           let written =
           c.write_out.ensures.shares n ss amounts (pieces number row) (spare ++ rest)
           (record { words = handed_on n f ss spare rest (has_pieces amounts) amounts ws at some.words start; few = omega arith; within = omega arith })
-          (subst (λ m. All (λ (q : Part). q.who < m) (lead_parts c.args.lead)) (sym k) (lead_there f n d number t some.number (lead_parts c.args.lead) lead))
+          (subst (λ m. AllByRecursion (λ (q : Part). q.who < m) (lead_parts c.args.lead)) (sym k) (lead_there f n d number t some.number (lead_parts c.args.lead) lead))
           (pieces_sum f n d number t some.number (lead_parts c.args.lead) lead) (pieces_small f n d number t some.number) (λ w h. pieces_past (count_in ws) number w row there h) in
           let settled =
           settled_some n ss (spare ++ rest) (count_in ws) row number c.write_out.new.work c.args.answer.now c.write_out.new.answer c.write_out.result some.number there (λ _. written)

@@ -1,5 +1,5 @@
 use Rattle.std.proofs.Common.{◌≡◌, ℕ, ◌*◌, ◌≤◌, true, List, [], ◌++◌, length, vec_items, sym, refl, ap, ◌∙◌, subst}
-use Rattle.std.specs.List.{AllByRecursion as All}
+use Rattle.std.specs.List.{AllByRecursion}
 use Rattle.std.proofs.lemmas.Result.{IfOk-weaker}
 use Rattle.std.proofs.lemmas.List.{append-nil}
 use Rattle.law.specs.Family.{parents, line_lives}
@@ -35,7 +35,7 @@ returns-in-Parents c =
           subst (λ row. Put (law_ways (vec_items c.args.ways.now)) row (law_ways (vec_items c.couple.new.ways)) t)
           (ap (λ (xs : List ℕ). heads_ways f d xs (c.args.by * length xs)) (e ∙ kept_living k (parents f d))
           ∙ sym (ways_second f d c.args.by (lines_order k c.args.lines.now l ∙ sym c.in-Parents.ensures.value)))
-          (p rk k (subst (All (λ q. line_lives f d q ≡ true)) (sym e) (kept_lives k (parents f d))) (subst (λ (xs : List ℕ). length xs ≤ 2) (sym e) (parents_few s f d))))
+          (p rk k (subst (AllByRecursion (λ q. line_lives f d q ≡ true)) (sym e) (kept_lives k (parents f d))) (subst (λ (xs : List ℕ). length xs ≤ 2) (sym e) (parents_few s f d))))
           c.couple.ensures.put;
     }
 

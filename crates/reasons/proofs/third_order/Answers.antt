@@ -1,5 +1,5 @@
 use Rattle.std.proofs.Common.{◌≡◌, ℕ, ◌+◌, ◌*◌, ◌≤◌, Bool, true, false, cond, eqb, List, ◌++◌, length, vec_items, vec_len, sym, refl, ap, ◌∙◌, subst, ap₂}
-use Rattle.std.specs.List.{AllByRecursion as All}
+use Rattle.std.specs.List.{AllByRecursion}
 use Rattle.std.proofs.lemmas.Result.{IfOk-weaker}
 use Rattle.law.specs.Family.{person, line_lives}
 use Rattle.ways.specs.Ways.{Way, heads_ways, third_ways}
@@ -12,9 +12,9 @@ use Rattle.reasons.proofs.third_order.Goals as goal
 
 -- what is asked of a side
 side_ready : {f : _} {rk : ℕ → ℕ} {d : ℕ} {s : ℕ → Bool} → Known f rk d s → (link : ℕ) (xs : List ℕ) → xs ≡ side_in s f link →
-    All (λ p. line_lives f d p ≡ true) xs × (length xs ≤ 2)
+    AllByRecursion (λ p. line_lives f d p ≡ true) xs × (length xs ≤ 2)
 side_ready {f} {rk} {d} {s} k link xs e =
-    (subst (All (λ p. line_lives f d p ≡ true)) (sym e) (side_kept s f link (kept_lives k)), subst (λ (ys : List ℕ). length ys ≤ 2) (sym e) (side_few s f link))
+    (subst (AllByRecursion (λ p. line_lives f d p ≡ true)) (sym e) (side_kept s f link (kept_lives k)), subst (λ (ys : List ℕ). length ys ≤ 2) (sym e) (side_few s f link))
 
 sides_by : (l : Lines) (b side n : ℕ) → side ≡ b * n → n ≡ cond (eqb (vec_len l.mothers) 0) 0 1 + cond (eqb (vec_len l.fathers) 0) 0 1 →
     side ≡ b * (one_if (vec_items l.mothers) + one_if (vec_items l.fathers))

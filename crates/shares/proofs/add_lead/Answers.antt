@@ -1,6 +1,6 @@
 -- The pieces of the part that stands first, or none. Assumes nothing.
 use Rattle.std.proofs.Common.{◌<◌, sym, ap, ◌∙◌, subst, div-le_self, arith}
-use Rattle.std.specs.List.{AllByRecursion as All}
+use Rattle.std.specs.List.{AllByRecursion}
 use Rattle.law.specs.Family.{Part}
 use Rattle.law.specs.Calls.{pieces}
 use Rattle.shares.specs.Parts.{law_part, lead_parts}
@@ -14,7 +14,7 @@ returns-in-Some c =
       left = λ m ps rest held there.
           let q = law_part c.in-Some.part in
           let whole = c.args.whole in
-          let who = subst (λ l. All (λ (p : Part). p.who < c.args.persons) (lead_parts l)) c.in-Some.is there in
+          let who = subst (λ l. AllByRecursion (λ (p : Part). p.who < c.args.persons) (lead_parts l)) c.in-Some.is there in
           held_as m ps (more_pieces no_pieces q.who c.amount.result) (pieces whole (lead_parts c.args.lead)) rest c.args.persons c.add_pieces.new.work
           (ap (more_pieces no_pieces q.who) c.amount.ensures.value ∙ lead_added whole q ∙ ap (λ l. pieces whole (lead_parts l)) (sym c.in-Some.is))
           (c.add_pieces.ensures.left m ps no_pieces rest held (λ _. who.0) (omega (arith, c.amount.ensures.value, div-le_self whole q.by)));
