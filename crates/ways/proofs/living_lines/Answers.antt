@@ -8,7 +8,7 @@ use Rattle.ways.specs.Rows.{family_of, in_row, lives_next}
 use Rattle.ways.proofs.Marks.{seen, seen_none, seen_more, seen_same, seen_all}
 use Rattle.ways.proofs.living_lines.Goals as goal
 use Rattle.ways.proofs.living_lines.Goals.{else-loop-step-test, then-loop-step-test+in_ok-next+then-eq}
-use Rattle.std.proofs.lemmas.Bool.Decides.{Decides-eqb}
+use Rattle.std.specs.Cmp.{booleans_Decides}
 
 pub loop-step-init : goal.loop-step-init
 loop-step-init c =
@@ -34,7 +34,7 @@ returns c =
           elim c.loop-step-test.branch [
             | else-loop-step-test w ↦ c.loop-step.invariant ∙ seen_all f d k n (omega arith) c.loop-step.auto.step-end same ∙ long
             | then-loop-step-test+in_ok-next+then-eq w ↦
-                let eq = (slice_eq-Decides Decides-eqb w.as_slice-in-loop-step.result.now w.as_slice-in-loop-step-2.result.now _ w.eq.ensures).0 w.if-eq.true in
+                let eq = (slice_eq-Decides booleans_Decides w.as_slice-in-loop-step.result.now w.as_slice-in-loop-step-2.result.now _ w.eq.ensures).0 w.if-eq.true in
                 let next : vec_items w.in_ok-next.next ≡ seen f d (k + 1) =
                 w.in_ok-next.ensures.value ∙ seen_more f d k n w.as_slice.result.now (w.as_slice.ensures.value ∙ c.loop-step.invariant) same in
                 c.loop-step.invariant
