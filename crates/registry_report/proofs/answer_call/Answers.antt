@@ -14,25 +14,25 @@ slice_bounds-put_answer-end c =
     let store = register.store.now in
     omega (
       arith,
-      says_room (words_in store) c.args.row.now (bytes_in store) (bytes_in c.call_size.new.self.store.now) c.bytes-bytes.result.now
-          c.call_size.result register.sound register.room c.call_size.ensures.long c.call_size.ensures.said c.bytes-bytes.ensures.value,
+      says_room (words_in store) c.args.row.now (bytes_in store) (bytes_in c.call-size.new.self.store.now) c.bytes-bytes.result.now
+          c.call-size.result register.sound register.room c.call-size.ensures.long c.call-size.ensures.said c.bytes-bytes.ensures.value,
     )
 
 pub returns : goal.returns
 returns c =
     let register = c.args.register.now in
     let store = register.store.now in
-    let size = c.call_size.result in
+    let size = c.call-size.result in
     let bytes = c.bytes-bytes.result.now in
     let back =
-    says_back (words_in store) c.args.row.now (bytes_in store) (bytes_in c.call_size.new.self.store.now) bytes
-    size register.sound register.room c.call_size.ensures.long c.call_size.ensures.said c.bytes-bytes.ensures.value (size - 0) (omega arith)
+    says_back (words_in store) c.args.row.now (bytes_in store) (bytes_in c.call-size.new.self.store.now) bytes
+    size register.sound register.room c.call-size.ensures.long c.call-size.ensures.said c.bytes-bytes.ensures.value (size - 0) (omega arith)
     in
     record {
-      left = c.call_size.ensures.left;
+      left = c.call-size.ensures.left;
       lines =
           same_text c.put_answer.result (string_bytes c.put_answer.new.text) (string_bytes c.args.text.now) (text_of (answer_read (take (size - 0) bytes)))
           (answer_text (says (memory_of register) (read c.args.row.now))) (ap text_of back) c.put_answer.ensures.lines;
-      words = c.call_size.ensures.words;
-      bytes = c.call_size.ensures.bytes;
+      words = c.call-size.ensures.words;
+      bytes = c.call-size.ensures.bytes;
     }
