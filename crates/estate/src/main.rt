@@ -4,6 +4,7 @@
 
 use clerk::Refusal;
 use std::alloc::AllocError;
+use std::process::ExitCode;
 use std::{env, fmt, fs, io};
 
 const HELP: &str = "Usage: estate FAMILY NAME
@@ -143,10 +144,12 @@ fn run(rt: &HostRuntime) -> Result<(), Failure> {
     }
 }
 
-fn main(rt: HostRuntime) -> Result<(), Failure> {
-    let done = run(&rt);
-    if let Err(failure) = &done {
-        let _ = eprintln!(rt; "estate: {failure}");
+fn main(rt: HostRuntime) -> ExitCode {
+    match run(&rt) {
+        Ok(()) => ExitCode::SUCCESS,
+        Err(failure) => {
+            let _ = eprintln!(rt; "estate: {failure}");
+            ExitCode::FAILURE
+        }
     }
-    done
 }

@@ -5,6 +5,7 @@
 
 use std::alloc::AllocError;
 use std::io::Read;
+use std::process::ExitCode;
 use std::{env, fmt, fs, io};
 
 const HELP: &str = "Usage: calls [FILE]
@@ -132,10 +133,12 @@ fn run(rt: &HostRuntime) -> Result<(), Failure> {
     print(rt, lines.as_str())
 }
 
-fn main(rt: HostRuntime) -> Result<(), Failure> {
-    let done = run(&rt);
-    if let Err(failure) = &done {
-        let _ = eprintln!(rt; "calls: {failure}");
+fn main(rt: HostRuntime) -> ExitCode {
+    match run(&rt) {
+        Ok(()) => ExitCode::SUCCESS,
+        Err(failure) => {
+            let _ = eprintln!(rt; "calls: {failure}");
+            ExitCode::FAILURE
+        }
     }
-    done
 }

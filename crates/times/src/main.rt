@@ -40,7 +40,7 @@ struct Times {
     refused: u32,
 }
 
-#[derive(Drop)]
+#[derive(Debug, Drop)]
 enum Failure {
     System(io::Error),
     NoMemory,
