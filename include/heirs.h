@@ -1,4 +1,4 @@
-/* The register of families, for programs in C: functions of the static library libexports.a, which `rt staticlib exports` writes.
+/* The register of families, for programs in C: functions of the static library libexports.a, which `rt lib` writes in crates/exports.
  *
  * A register lies in memory that the caller lends: words for its family, bytes for its answers. Nothing is allocated, nothing is kept
  * elsewhere, and no function calls back. docs/RULES.md says what each call does and when it is refused; docs/NUMBERS.md has the bytes of

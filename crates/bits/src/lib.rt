@@ -2,7 +2,7 @@
 // Each function says what it does by words, and in the clause `sets` of a set whose m words lie between others in memory.
 #![tactic(auto)]
 
-ghost use Rattle.std.specs.Prelude.{◌≡◌, ℕ, ◌+◌, ◌*◌, ◌/◌, ◌%◌, ◌<◌, ◌≤◌, Bool, List, ◌++◌, length, set, replicate, IfSome, slice_index, slice_set};
+ghost use Rattle.std.specs.Prelude.{◌≡◌, ℕ, ◌+◌, ◌*◌, ◌/◌, ◌%◌, ◌<◌, ◌≤◌, Bool, List, ◌++◌, length, replicate, IfSome, slice_index, slice_set};
 ghost use Rattle.bits.specs.Sets.{bit_row, member_in, members, no_member, with_member, without_member};
 ghost use Rattle.bits.specs.Words.{inserted, removed};
 ghost use Rattle.rows.specs.Written.{written};

@@ -334,7 +334,7 @@ links_born n f m d of_mother of_father room m-there d-there other distinct m-las
     ∙ ap (λ t. filed t d (length f) of_father) (links_mother n f m of_mother room m-there distinct m-last)
     ∙ links_father n f m d of_father room d-there other distinct d-last
 
--- the newborn's own words are 0, as they were before (`link-row-past`)
+-- the newborn's own words are 0, as they were before (`link_row_past`)
 newest_behind : (f : Family) (x : Person) (m : ℕ) → ((p : ℕ) → m ≡ suc p → has_parent x p ≡ true) → behind (f ++ (x ∷ [])) m (length f) ≡ 0
 unfolding behind first_of
 newest_behind f x zero has = refl

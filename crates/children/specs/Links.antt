@@ -40,7 +40,7 @@ has_parent x p = x.mother == suc p || x.father == suc p
 abbrev pub is_mother : Family → ℕ → ℕ → Bool
 is_mother f p c = (person f c).mother == suc p
 
--- by-mother says of a parent, who is given as 0 or one more than a number, whether they are the mother of their last child so far
+-- by_mother says of a parent, who is given as 0 or one more than a number, whether they are the mother of their last child so far
 abbrev pub OfLast : Family → ℕ → Bool → Type 0
 OfLast f m by_mother = (p c : ℕ) → m ≡ suc p → last_of (children f p) ≡ suc c → by_mother ≡ is_mother f p c
 

@@ -1,11 +1,9 @@
 -- A register in which a family came about answers by that family. Assumes nothing.
-use Rattle.std.proofs.Common.{◌≡◌, ℕ, ◌<◌, ◌≤◌, Bool, true, false, List, [], length, get_or, drop, Decides, sym, refl, ap, ◌∙◌, inl, inr, arith, Bor}
-use Rattle.std.proofs.lemmas.Slice.Eq.{bytes_eq-Decides}
+use Rattle.std.proofs.Common.{◌≡◌, ℕ, ◌<◌, Bool, List, [], length, get_or, drop, sym, ap, ◌∙◌, arith, Bor}
 use Rattle.std.proofs.lemmas.List.{drop_all}
-use Rattle.std.proofs.lemmas.Bool.{cases_Bool, both_ways}
 use Rattle.std.specs.Str.{bytes_eq}
 use Rattle.law.specs.Family.{Family}
-use Rattle.law.specs.Calls.{Call, Answer}
+use Rattle.law.specs.Calls.{Call}
 use Rattle.law.specs.Promise.{Memory, ran, left_by}
 use Rattle.theory.specs.Answers.{answer_to}
 use Rattle.people.specs.Layout.{image}

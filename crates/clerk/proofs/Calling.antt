@@ -1,10 +1,10 @@
 -- The calls that build a family, one after the other. Assumes nothing.
-use Rattle.std.proofs.Common.{◌≡◌, ℕ, suc, ◌+◌, ◌-◌, ◌<◌, ◌≤◌, Bool, true, false, cond, ltb, leb, List, [], ◌∷◌, ◌++◌, map, length, get_or, take, drop, Some, None, Option, sym, refl, ap, ◌∙◌, arith}
+use Rattle.std.proofs.Common.{◌≡◌, ℕ, suc, ◌+◌, ◌-◌, ◌<◌, ◌≤◌, true, false, ltb, leb, List, [], ◌∷◌, ◌++◌, length, take, drop, Some, None, sym, refl, ap, ◌∙◌, arith}
 use Rattle.std.proofs.lemmas.List.{drop_more, drop_all}
 use Rattle.std.proofs.lemmas.Bool.{cond-true, cond-false, le-leb, lt-ltb, le-ltb}
 use Rattle.std.specs.List.{AllByRecursion}
 use Rattle.rows.specs.Written.{written}
-use Rattle.law.specs.Family.{Person, person, nobody, Family}
+use Rattle.law.specs.Family.{person, nobody, Family}
 use Rattle.law.specs.Calls.{Call, born, wed, dies, call_number}
 use Rattle.law.specs.Promise.{Memory, left_by}
 use Rattle.wire.specs.Bytes.{le4, row_bytes, laid_over, laid_length, call_values, call_bytes, read, call_of, is_word}

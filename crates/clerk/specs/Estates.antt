@@ -2,7 +2,6 @@
 use Rattle.std.specs.Prelude.{◌≡◌, ℕ, List, [], ◌∷◌, ◌++◌, Some, None, Ok, Err, string_bytes, codes, decimal, Option, Result, String, slice_index_or}
 use Rattle.std.specs.List.{flat_map}
 use Rattle.std.specs.declared.alloc.Global.{Global}
-use Rattle.law.specs.Family.{Family}
 use Rattle.law.specs.Calls.{Share, Answer, refused, number, shares, estate_of, right}
 use Rattle.theory.specs.Answers.{answer_to}
 use Rattle.registry_report.specs.Lines.{answer_text}

@@ -1,18 +1,17 @@
 -- The table of an estate, piece by piece, and that its last line is right. Assumes nothing.
-use Rattle.std.proofs.Common.{◌≡◌, ℕ, zero, suc, ◌+◌, ◌<◌, ◌≤◌, Bool, true, false, cond, eqb, ◌⊎◌, List, [], ◌∷◌, ◌++◌, map, length, is_some, Some, None, vec_items, vec_len, codes, Option, sym, refl, ap, ◌∙◌, subst, ap₂, inl, inr, ⊎_elim, arith}
+use Rattle.std.proofs.Common.{◌≡◌, ℕ, zero, suc, ◌+◌, ◌<◌, true, false, cond, eqb, List, [], ◌∷◌, ◌++◌, map, length, is_some, Some, None, vec_items, vec_len, codes, Option, sym, refl, ap, ◌∙◌, ap₂, ⊎_elim, arith}
 use Rattle.std.specs.List.{range_with_len, flat_map}
 use Rattle.std.proofs.lemmas.List.{append-nil, length-append, length-map}
 use Rattle.std.proofs.lemmas.Bool.{cases_Bool, cond-true, cond-false, eq-eqb, ne_eqb}
 use Rattle.law.specs.Family.{Family, order, has_living_spouse, estate}
 use Rattle.law.specs.Calls.{common_multiple}
-use Rattle.theory.specs.Families.{WellFormed}
 use Rattle.theory.proofs.Lists.{joined_append}
 use Rattle.theory.proofs.Multiples.{common_multiple_divides}
 use Rattle.theory.proofs.Parts.{estate_adds}
 use Rattle.shares.specs.Together.{SettledRight}
 use Rattle.shares.specs.declared.Part.{Part}
 use Rattle.shares.proofs.Together.{settled_right}
-use Rattle.ways.specs.Ways.{counted, estate_ways, spouse_ways, kin_ways, relatives_up, relatives_by, relatives_ways}
+use Rattle.ways.specs.Ways.{counted, estate_ways, spouse_ways, kin_ways, relatives_up, relatives_by}
 use Rattle.ways.specs.Rows.{law_way, law_ways}
 use Rattle.reasons.specs.Estates.{lead_ways}
 use Rattle.reasons.specs.declared.Estate.{Estate}
@@ -21,8 +20,8 @@ use Rattle.why.specs.Explained.{LinePart, ways_held}
 use Rattle.why.specs.declared.Fraction.{Fraction}
 use Rattle.why.proofs.Sums.{number_of_some}
 use Rattle.reason_lines.specs.Lines.{person_text, fraction_text}
-use Rattle.reason_lines.proofs.Texts.{two, three}
-use Rattle.estate_table.specs.Tables.{under_line, heir_lines, heirs_lines, end_line, SharesAreOne}
+use Rattle.reason_lines.proofs.Texts.{three}
+use Rattle.estate_table.specs.Tables.{under_line, heir_lines, end_line, SharesAreOne}
 
 -- somebody's lines
 pub heir_none : (ns : List (List ℕ)) (w : ℕ) (share : Fraction) (xs : List LinePart) → length xs ≡ 0 → heir_lines ns w share xs ≡ []

@@ -1,5 +1,5 @@
 -- The table of an estate: all heirs with their shares, and under each the lines of the parts. Assumes nothing: these are definitions.
-use Rattle.std.specs.Prelude.{◌≡◌, ℕ, ◌<◌, true, cond, List, [], ◌∷◌, ◌++◌, map, length, codes, ◌==◌, nat_lt}
+use Rattle.std.specs.Prelude.{◌≡◌, ℕ, ◌<◌, true, cond, List, [], ◌∷◌, ◌++◌, length, codes, ◌==◌, nat_lt}
 use Rattle.std.specs.List.{range_with_len, flat_map}
 use Rattle.law.specs.Family.{Family, estate}
 use Rattle.law.specs.Calls.{common_multiple}

@@ -1,7 +1,7 @@
 // The table of an estate: all heirs with their shares, and under each the lines by which the parts came.
 #![tactic(auto)]
 
-ghost use Rattle.std.specs.Prelude.{◌≡◌, ℕ, List, [], ◌∷◌, ◌++◌, map, length, string_bytes, OnOk, ◌==◌};
+ghost use Rattle.std.specs.Prelude.{◌≡◌, ℕ, ◌++◌, length, string_bytes, OnOk, ◌==◌};
 ghost use Rattle.std.specs.List.{flat_map};
 ghost use Rattle.law.specs.Family.{Family};
 ghost use Rattle.theory.specs.Families.{WellFormed};

@@ -1,22 +1,20 @@
 -- An estate by the numbers of the passes: by which number it is divided, who the heirs are, and what they have. Assumes nothing.
-use Rattle.std.proofs.Common.{◌≡◌, ℕ, zero, suc, ◌+◌, ◌*◌, ◌<◌, ◌≤◌, Bool, true, false, cond, not, ◌&&◌, eqb, ltb, leb, ◌≢◌, ◌⊎◌, List, [], ◌∷◌, ◌++◌, length, get_or, replicate, Some, None, sum, sym, refl, ap, ◌∙◌, subst, inl, inr, ⊎_elim, arith}
+use Rattle.std.proofs.Common.{◌≡◌, ℕ, zero, suc, ◌+◌, ◌*◌, ◌<◌, ◌≤◌, Bool, true, false, cond, not, ◌&&◌, eqb, ltb, leb, ◌⊎◌, List, [], ◌∷◌, ◌++◌, length, get_or, replicate, Some, None, sum, sym, refl, ap, ◌∙◌, inl, inr, ⊎_elim, arith}
 use Rattle.std.specs.List.{AllByRecursion}
 use Rattle.std.proofs.lemmas.List.{length-replicate}
 use Rattle.std.proofs.ByRecursion.{All-weaker}
 use Rattle.std.proofs.lemmas.Bool.{cases_lt, cases_eq, cases_Bool, cond-true, cond-false, lt-leb, lt-ltb, eq-eqb, ne_eqb, eqb-false}
 use Rattle.law.specs.Family.{Family, Part}
-use Rattle.law.specs.Calls.{common_multiple, pieces, all_pieces}
+use Rattle.law.specs.Calls.{common_multiple}
 use Rattle.theory.specs.Families.{Ranked}
 use Rattle.theory.specs.Living.{alive}
 use Rattle.theory.specs.Decedent.{kept_estate}
-use Rattle.theory.proofs.Multiples.{common_multiple_append, common_multiple_divides, common_multiple_below}
+use Rattle.theory.proofs.Multiples.{common_multiple_append}
 use Rattle.bits.specs.Sets.{with_member, no_member}
-use Rattle.shares.specs.Parts.{dividable, number_of}
+use Rattle.shares.specs.Parts.{number_of}
 use Rattle.shares.specs.Work.{has_pieces}
 use Rattle.amounts.specs.Passes.{is_in, few, started, starts_count, starts_numbers}
-use Rattle.amounts.specs.Lines.{divided_among}
-use Rattle.amounts.specs.Statements.{Listing}
-use Rattle.amounts.specs.Estates.{relatives_times, spouse_lead, estate_starts, estate_listing, estate_counts, estate_multiples, estate_amounts, ByPasses}
+use Rattle.amounts.specs.Estates.{relatives_times, spouse_lead, estate_starts, estate_counts, estate_multiples}
 use Rattle.amounts.proofs.Members.{in_cases, in_none}
 use Rattle.amounts.proofs.Lines.{few_small, few_large}
 use Rattle.amounts.proofs.Listing.{alive_there}

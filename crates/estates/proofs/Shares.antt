@@ -1,9 +1,8 @@
 -- From everybody's pieces to shares: a part that stands first, and what the answer says. Assumes nothing.
-use Rattle.std.proofs.Common.{◌≡◌, ℕ, ◌+◌, ◌*◌, ◌/◌, ◌<◌, ◌≤◌, Bool, true, false, cond, eqb, List, [], ◌∷◌, ◌++◌, length, get_or, replicate, Some, None, Option, sym, refl, ap, ◌∙◌, subst, arith}
+use Rattle.std.proofs.Common.{◌≡◌, ℕ, ◌+◌, ◌*◌, ◌/◌, ◌<◌, ◌≤◌, Bool, true, false, cond, eqb, List, [], ◌∷◌, length, get_or, replicate, Some, None, Option, sym, ap, ◌∙◌, subst, arith}
 use Rattle.std.specs.List.{AllByRecursion}
 use Rattle.std.proofs.lemmas.List.{length-replicate}
-use Rattle.std.proofs.lemmas.Bool.{cond-false}
-use Rattle.law.specs.Family.{Family, Part, estate, repeated}
+use Rattle.law.specs.Family.{Family, Part, repeated}
 use Rattle.law.specs.Calls.{common_multiple, pieces, all_pieces, divides_all}
 use Rattle.theory.specs.Families.{Ranked}
 use Rattle.theory.specs.Decedent.{kept_estate}
@@ -19,7 +18,7 @@ use Rattle.shares.proofs.Settling.{divided_by, divided_some}
 use Rattle.succession.specs.Settling.{DeadThere}
 use Rattle.amounts.specs.Passes.{is_in}
 use Rattle.amounts.specs.Lines.{starts_parts}
-use Rattle.amounts.specs.Estates.{relatives_times, spouse_lead, estate_starts, estate_listing, estate_amounts}
+use Rattle.amounts.specs.Estates.{relatives_times, spouse_lead, estate_starts, estate_listing}
 use Rattle.amounts.proofs.Cleared.{replicate_nothing}
 use Rattle.amounts.proofs.Estates.{estate_passes}
 use Rattle.estates.specs.Passing.{pieces_by, amounts_by}

@@ -1,5 +1,5 @@
 -- What a call gives and leaves, from what its reply says. Assumes nothing.
-use Rattle.std.proofs.Common.{◌≡◌, ℕ, ◌+◌, ◌*◌, ◌<◌, ◌≤◌, true, false, cond, eqb, List, length, ℤ, pos, Ok, Err, sym, refl, ap, ◌∙◌, subst, arith, w64, SFits, to_z, of_z}
+use Rattle.std.proofs.Common.{◌≡◌, ℕ, ◌<◌, ◌≤◌, eqb, List, length, ℤ, pos, Ok, Err, sym, refl, ap, ◌∙◌, subst, arith, w64, to_z, of_z}
 use lib.Signed.{mag}
 use Rattle.std.proofs.lemmas.Int.{ints, to_z-of_z}
 use Rattle.std.proofs.lemmas.Bool.{eq-eqb, ne_eqb, cond-true, cond-false}
@@ -9,7 +9,7 @@ use Rattle.law.specs.Promise.{Memory}
 use Rattle.rows.specs.Written.{written}
 use Rattle.wire.specs.Bytes.{read, answer_bytes}
 use Rattle.people.specs.Layout.{limit_in, family_in, rest_in, image, Sound}
-use Rattle.theory.specs.Answers.{answer_taken, answer_to}
+use Rattle.theory.specs.Answers.{answer_taken}
 use Rattle.service.specs.Desks.{limits, state, next, says, bytes_asked}
 use Rattle.service.specs.Refusals.{refusal_number, refusal_place}
 use Rattle.service.specs.Service.{Replied}

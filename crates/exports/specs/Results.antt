@@ -4,7 +4,7 @@ use Rattle.law.specs.Calls.{Call, Answer, refused, number, shares, refusal}
 use Rattle.law.specs.Promise.{all_right}
 use Rattle.rows.specs.Written.{written}
 use Rattle.wire.specs.Bytes.{answer_bytes}
-use Rattle.people.specs.Layout.{limit_in, count_in, family_in, Roomy, Sound}
+use Rattle.people.specs.Layout.{limit_in, count_in, family_in, Sound}
 use Rattle.service.specs.Desks.{limits, state, next, says, desk, bytes_asked}
 use Rattle.service.specs.Refusals.{refusal_number, refusal_place}
 use Rattle.service.specs.declared.refusal.Refusal.{Refusal}

@@ -4,7 +4,7 @@
 
 ghost use Rattle.std.specs.Prelude.{◌≡◌, ℕ, ◌<◌, ◌≤◌, length, pos};
 ghost use Rattle.wire.specs.Bytes.{read};
-ghost use Rattle.people.specs.Layout.{limit_in, Roomy, Sound};
+ghost use Rattle.people.specs.Layout.{limit_in, Roomy};
 ghost use Rattle.service.specs.Desks.{state, bytes_asked};
 ghost use Rattle.service.specs.Refusals.{refusal_number, refusal_place};
 ghost use Rattle.service.specs.Service.{opens, left_by};

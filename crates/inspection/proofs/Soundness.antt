@@ -1,8 +1,8 @@
 -- Words of which all parts fit are the memory of a valid family, and the other way round. Assumes nothing.
-use Rattle.std.proofs.Common.{◌≡◌, ℕ, zero, suc, ◌+◌, ◌-◌, ◌*◌, ◌/◌, ◌%◌, ◌^◌, ◌<◌, ◌≤◌, Bool, true, false, cond, not, ◌&&◌, eqb, ltb, leb, List, [], ◌∷◌, ◌++◌, length, get_or, drop, replicate, sym, refl, ap, ◌∙◌, subst, ⊎_elim, arith}
+use Rattle.std.proofs.Common.{◌≡◌, ℕ, zero, suc, ◌+◌, ◌-◌, ◌*◌, ◌/◌, ◌%◌, ◌^◌, ◌<◌, ◌≤◌, Bool, true, false, cond, not, ◌&&◌, eqb, ltb, List, [], ◌∷◌, ◌++◌, length, get_or, drop, replicate, sym, refl, ap, ◌∙◌, subst, ⊎_elim, arith}
 use Rattle.std.proofs.lemmas.List.{drop_more, length-replicate, get_or-replicate}
 use Rattle.std.proofs.lemmas.Bool.{cases_lt, and_parts, and_from, and_left, leb-true, le-leb, eqb-true, eq-eqb, lt-ltb, le-ltb}
-use Rattle.law.specs.Family.{Person, Family, person, nobody, children, some_of}
+use Rattle.law.specs.Family.{Person, Family, person, nobody, children}
 use Rattle.rows.specs.Tables.{table}
 use Rattle.rows.proofs.Regions.{region_read}
 use Rattle.rows.proofs.Tables.{length-table, get_or-table}
@@ -13,12 +13,12 @@ use Rattle.theory.proofs.Living.{alive_past, alive_law, alive_one_set}
 use Rattle.children.specs.Links.{first_of, last_of, behind, link_row}
 use Rattle.children.proofs.Children.{children_past}
 use Rattle.children.proofs.Links.{links_wide}
-use Rattle.people.specs.Layout.{words_asked, work_words, person_words, person_at, person_row, laid, image, limit_in, count_in, family_in, rest_in, person_fits, Roomy, Valid, Sound}
+use Rattle.people.specs.Layout.{words_asked, work_words, person_words, person_at, person_row, laid, limit_in, count_in, family_in, rest_in, Roomy, Valid, Sound}
 use Rattle.people.proofs.Layouts.{length-family, person_found, nobody_past, persons_wide, laid_link, around_work}
 use Rattle.people.proofs.Valids.{valid_ranked, valid_there}
 use Rattle.living.specs.Marks.{supported}
 use Rattle.living.specs.Places.{Held}
-use Rattle.inspection.specs.Words.{row_fits, RowsFit, Zeros, links_at, link_fits, LinksFit, TablesFit, Marked}
+use Rattle.inspection.specs.Words.{RowsFit, Zeros, links_at, link_fits, TablesFit, Marked}
 use Rattle.inspection.proofs.Parts.{part_table, part_zeros, part_set}
 
 -- who lives, as a word

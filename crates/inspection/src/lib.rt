@@ -1,14 +1,14 @@
 // Whether lent words are those of a register: each word is compared with what it should be for the family that the persons' words tell of.
 #![tactic(auto)]
 
-ghost use Rattle.std.specs.Prelude.{◌≡◌, ℕ, ◌+◌, ◌-◌, ◌*◌, ◌<◌, ◌≤◌, Bool, true, cond, ◌&&◌, ◌⊎◌, List, length, ◌==◌, nat_lt, slice_index};
+ghost use Rattle.std.specs.Prelude.{◌≡◌, ℕ, ◌+◌, ◌-◌, ◌<◌, ◌≤◌, Bool, true, cond, ◌&&◌, ◌⊎◌, List, length, ◌==◌, nat_lt, slice_index};
 ghost use Rattle.law.specs.Family.{Family, person, is_child, children_in, children};
 ghost use Rattle.children.specs.Links.{first_of, last_of, behind, has_parent};
-ghost use Rattle.people.specs.Layout.{limit_in, count_in, family_in, parents_fit, spouse_fits, Roomy, Valid, Sound};
+ghost use Rattle.people.specs.Layout.{limit_in, count_in, family_in, parents_fit, spouse_fits, Roomy, Sound};
 ghost use Rattle.people.specs.Persons.{law_person};
 ghost use Rattle.living.specs.Marks.{supported};
 ghost use Rattle.living.specs.Places.{Held};
-ghost use Rattle.inspection.specs.Words.{row_fits, RowsFit, Zeros, links_at, link_fits, LinksFit, TablesFit, Marked};
+ghost use Rattle.inspection.specs.Words.{row_fits, RowsFit, Zeros, link_fits, LinksFit, TablesFit, Marked};
 
 use people::Person;
 

@@ -1,14 +1,13 @@
 -- Of whose lines somebody is: of those whose line would live if nobody else did. Assumes nothing.
-use Rattle.std.proofs.Common.{◌≡◌, ℕ, ◌+◌, ◌<◌, ◌≤◌, Bool, true, false, ◌||◌, eqb, ◌≢◌, List, [], ◌∷◌, ◌++◌, map, length, sym, refl, ap, ◌∙◌, subst, ⊎_elim, arith}
-use Rattle.std.specs.List.{range_with_len}
+use Rattle.std.proofs.Common.{◌≡◌, ℕ, ◌<◌, ◌≤◌, true, length, sym, refl, ap, ◌∙◌, subst, ⊎_elim, arith}
 use Rattle.std.proofs.lemmas.List.FromFn.{get_or-map-range_with_len, length-map-range_with_len}
 use Rattle.std.proofs.lemmas.Bool.{cases_lt, eqb-true, eq-eqb, or_cases, both_ways}
 use Rattle.law.specs.Family.{Family, Person, person, nobody, is_child, children, some_of, line_lives}
 use Rattle.law.specs.Promise.{OfLine}
 use Rattle.theory.specs.Families.{Ranked, SameParents}
-use Rattle.theory.proofs.Families.{past_nobody, lives_there, child_there, child_same, ranked_same}
+use Rattle.theory.proofs.Families.{past_nobody, lives_there, child_same, ranked_same}
 use Rattle.theory.proofs.Children.{child_of_some}
-use Rattle.theory.proofs.Lines.{line_here, line_step, ascend, descend, line_lives_other, line_lives_self, line_lives_child, line_lives_past, of_line_map}
+use Rattle.theory.proofs.Lines.{line_here, line_step, ascend, descend, line_lives_other, line_lives_self, line_lives_child, line_lives_past}
 use Rattle.kinship.specs.Forebears.{only_person, only_lives, LinesTo}
 
 module _ (f : Family) (w : ℕ) where

@@ -1,23 +1,22 @@
 -- The nearest order of which somebody is, and what follows for who has no share. Assumes nothing.
-use Rattle.std.proofs.Common.{◌≡◌, ℕ, zero, suc, ◌+◌, ◌<◌, ◌≤◌, Bool, true, false, cond, not, eqb, ltb, ◌≢◌, ◌⊎◌, List, [], ◌∷◌, ◌++◌, map, length, filter, sym, refl, ap, ◌∙◌, subst, inl, inr, ⊎_elim, arith}
+use Rattle.std.proofs.Common.{◌≡◌, ℕ, zero, suc, ◌<◌, ◌≤◌, Bool, true, false, cond, eqb, ltb, ◌≢◌, ◌⊎◌, List, [], ◌∷◌, ◌++◌, length, filter, sym, refl, ap, ◌∙◌, subst, inl, inr, ⊎_elim, arith}
 use Rattle.std.specs.List.{flat_map, AllByRecursion}
 use Rattle.std.proofs.lemmas.List.{append-nil, length-append}
 use Rattle.std.proofs.lemmas.List.Elements.{filter-append}
 use Rattle.std.proofs.ByRecursion.{all_kept_by, kept_by_passes}
-use Rattle.std.proofs.lemmas.Bool.{both_ways, cases_Bool, cases_eq, cases_lt, eqb-true, eqb-false, ltb-true, ltb-false, eq-eqb, ne_eqb, cond-true, cond-false, cond_both}
-use Rattle.law.specs.Family.{Family, person, is_child, children, parents, known, line_lives, order}
+use Rattle.std.proofs.lemmas.Bool.{both_ways, cases_Bool, cases_eq, eqb-true, eqb-false, ltb-true, ltb-false, ne_eqb, cond-false, cond_both}
+use Rattle.law.specs.Family.{Family, person, is_child, children, parents, known, order}
 use Rattle.law.specs.Promise.{descends_by, OfLine}
 use Rattle.theory.specs.Families.{Ranked}
 use Rattle.theory.proofs.Lists.{joined_append, all_both}
 use Rattle.theory.proofs.Children.{children_child}
-use Rattle.theory.proofs.Lines.{line_here, line_step}
+use Rattle.theory.proofs.Lines.{line_step}
 use Rattle.reasons.specs.Estates.{side_in, Known}
 use Rattle.reasons.proofs.Orders.{order_is}
 use Rattle.kinship.specs.Forebears.{LinesTo}
-use Rattle.kinship.specs.Causes.{starts, OfSome, stood_before, ForebearBefore, NearerInherits, NoWay, order_in, cause_by, CauseHolds}
-use Rattle.kinship.specs.declared.Cause.{Cause}
+use Rattle.kinship.specs.Causes.{starts, OfSome, stood_before, NoWay, order_in, cause_by, CauseHolds}
 use Rattle.kinship.specs.declared.Cause.TheVariants.{NearerOrder, LivingForebear, NotOfFamily}
-use Rattle.kinship.proofs.Standing.{In, Ends, ends_not, Beside, line_up, in_kept, in_some, child_in, all_in, first_stood, second_stood, third_stood}
+use Rattle.kinship.proofs.Standing.{ends_not, line_up, in_kept, in_some, child_in, all_in, first_stood, second_stood, third_stood}
 
 -- the lines of the third order that are in a set, by sides
 kept_known : (s : ℕ → Bool) (f : Family) (k : ℕ) → filter s (flat_map (λ p. parents f p) (known k)) ≡ side_in s f k

@@ -1,20 +1,16 @@
 -- Of which orders somebody is, and that somebody whom no one stands before has a way. Assumes nothing.
-use Rattle.std.proofs.Common.{◌≡◌, ℕ, zero, suc, ◌+◌, ◌-◌, ◌*◌, ◌<◌, ◌≤◌, Bool, true, false, cond, not, ◌&&◌, ◌||◌, eqb, ◌≢◌, ◌⊎◌, List, [], ◌∷◌, ◌++◌, map, length, filter, sym, refl, ap, ◌∙◌, subst, inl, inr, ⊎_elim, arith}
+use Rattle.std.proofs.Common.{◌≡◌, ℕ, zero, suc, ◌+◌, ◌*◌, ◌<◌, ◌≤◌, Bool, true, false, eqb, ◌≢◌, ◌⊎◌, List, [], ◌∷◌, ◌++◌, length, filter, sym, refl, ap, ◌∙◌, subst, inl, inr, ⊎_elim, arith}
 use Rattle.std.specs.List.{flat_map, AllByRecursion}
-use Rattle.std.proofs.lemmas.List.{append-nil, length-append}
-use Rattle.std.proofs.lemmas.List.Elements.{filter-append}
-use Rattle.std.proofs.lemmas.Bool.{both_ways, cases_Bool, cases_eq, eqb-true, eqb-false, eq-eqb, ne_eqb, not_from_false, cond-true, cond-false, cond_both}
-use Rattle.law.specs.Family.{Family, person, is_child, children_in, children, parents, known, line_lives, living_lines, side_lives, living_sides, order}
+use Rattle.std.proofs.lemmas.Bool.{both_ways, cases_Bool, cases_eq, ne_eqb, not_from_false, cond-true, cond-false, cond_both}
+use Rattle.law.specs.Family.{Family, person, is_child, children_in, children, parents, line_lives, living_lines, side_lives, living_sides, order}
 use Rattle.law.specs.Promise.{descends_by, OfLine}
 use Rattle.theory.specs.Families.{Ranked}
 use Rattle.theory.proofs.Families.{child_there, lives_there}
-use Rattle.theory.proofs.Lines.{line_here, line_step, line_lives_self, line_lives_child, stands_true, stands_decedent}
-use Rattle.ways.specs.Ways.{Way, stands, line_ways_in, line_ways, heads_ways, couple_ways, first_ways, second_ways, third_ways, relatives_ways, relatives_by, kin_ways}
+use Rattle.theory.proofs.Lines.{line_lives_self, line_lives_child, stands_true}
+use Rattle.ways.specs.Ways.{Way, stands, line_ways_in, line_ways, couple_ways, relatives_by, kin_ways}
 use Rattle.ways.proofs.Going.{way_standing}
-use Rattle.reasons.specs.Estates.{side_in}
 use Rattle.reasons.proofs.Orders.{ways_first, ways_second, ways_third}
-use Rattle.kinship.specs.Forebears.{LinesTo}
-use Rattle.kinship.specs.Causes.{starts, OfSome, stood_before}
+use Rattle.kinship.specs.Causes.{stood_before}
 
 -- somebody is on a row
 abbrev pub In : ℕ → List ℕ → Type 0

@@ -1,5 +1,5 @@
 -- Of whose lines somebody is. Assumes nothing: these are definitions.
-use Rattle.std.specs.Prelude.{◌≡◌, ℕ, Bool, true, List, map, length, ◌==◌}
+use Rattle.std.specs.Prelude.{◌≡◌, ℕ, Bool, true, map, length, ◌==◌}
 use Rattle.std.specs.List.{range_with_len}
 use Rattle.law.specs.Family.{Family, Person, person}
 use Rattle.law.specs.Promise.{OfLine}

@@ -1,12 +1,10 @@
 // Why somebody has no share of an estate: of which lines they are, and who stands before them.
 #![tactic(auto)]
 
-ghost use Rattle.std.specs.Prelude.{◌≡◌, ℕ, ◌<◌, ◌≤◌, true, ◌≢◌, List, [], map, length, IfOk};
-ghost use Rattle.law.specs.Family.{person, order as law_order};
+ghost use Rattle.std.specs.Prelude.{◌≡◌, ℕ, ◌<◌, length, IfOk};
 ghost use Rattle.theory.specs.Families.{Ranked};
 ghost use Rattle.ways.specs.Rows.{family_of, in_row};
 ghost use Rattle.succession.specs.Orders.{order_number};
-ghost use Rattle.ways.specs.Ways.{kin_ways};
 ghost use Rattle.kinship.specs.Causes.{order_in, cause_by, NoWay, CauseHolds};
 ghost use Rattle.kinship.specs.Forebears.{only_lives, LinesTo};
 

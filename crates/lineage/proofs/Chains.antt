@@ -1,20 +1,20 @@
 -- Ways are chains, all of them, each once. Assumes nothing.
-use Rattle.std.proofs.Common.{◌≡◌, ℕ, zero, suc, ◌+◌, ◌*◌, ◌<◌, ◌≤◌, Bool, true, false, cond, not, ◌&&◌, eqb, ◌≢◌, ◌⊎◌, List, [], ◌∷◌, ◌++◌, length, filter, sym, refl, ap, ◌∙◌, subst, inl, inr, ⊎_elim, arith}
+use Rattle.std.proofs.Common.{◌≡◌, ℕ, zero, suc, ◌+◌, ◌*◌, ◌<◌, ◌≤◌, Bool, true, false, cond, not, eqb, ◌≢◌, ◌⊎◌, List, [], ◌∷◌, ◌++◌, length, filter, sym, refl, ap, ◌∙◌, subst, inl, inr, ⊎_elim, arith}
 use Rattle.std.specs.List.{flat_map, AllByRecursion}
 use Rattle.std.proofs.lemmas.List.{append_assoc, append-nil}
 use Rattle.std.proofs.ByRecursion.{All-weaker, All-append}
-use Rattle.std.proofs.lemmas.Bool.{both_ways, cases_Bool, and_parts, not-true, eqb-false, ne_eqb, not_from_false, cond-true, cond-false, cond_both}
+use Rattle.std.proofs.lemmas.Bool.{and_parts, not-true, eqb-false, ne_eqb, not_from_false, cond-true, cond-false, cond_both}
 use Rattle.law.specs.Family.{Family, person, is_child, children_in, children, parents, known, line_lives, living_lines, side_lives, living_sides, order}
 use Rattle.law.specs.Promise.{descends_by, OfLine}
 use Rattle.theory.specs.Families.{Ranked}
 use Rattle.theory.proofs.Lists.{joined_all, all_any}
 use Rattle.theory.proofs.Families.{lives_there}
-use Rattle.theory.proofs.Lines.{below_child, line_lives_self}
-use Rattle.ways.specs.Ways.{Way, stands, line_ways_in, line_ways, heads_ways, couple_ways, first_ways, second_ways, third_ways, relatives_ways}
+use Rattle.theory.proofs.Lines.{below_child}
+use Rattle.ways.specs.Ways.{Way, stands, line_ways_in, line_ways, heads_ways, couple_ways, first_ways, third_ways}
 use Rattle.ways.proofs.Going.{way_standing}
 use Rattle.reasons.proofs.Orders.{ways_first, ways_second, ways_third}
 use Rattle.kinship.proofs.Standing.{in_left, in_right, in_joined, in_kept, in_some, child_in, lives_up}
-use Rattle.lineage.specs.Chains.{leads, On, Listed, LeadsFrom, Once, grandparents, WaysLead, AllListed, WaysAreChains, ChainsAreWays, EachOnce}
+use Rattle.lineage.specs.Chains.{leads, On, Listed, LeadsFrom, Once, grandparents, WaysAreChains, ChainsAreWays, EachOnce}
 
 all_on : (P : ℕ → Type 0) (xs : List ℕ) → ((x : ℕ) → On x xs → P x) → AllByRecursion P xs
 all_on P [] h = tt

@@ -1,5 +1,5 @@
 -- Text that was appended where there was memory. Assumes nothing.
-use Rattle.std.proofs.Common.{◌≡◌, ℕ, cond, List, ◌++◌, is_ok, IfOk, Ok, Err, Result, sym, ap, ◌∙◌}
+use Rattle.std.proofs.Common.{◌≡◌, ℕ, cond, List, ◌++◌, is_ok, IfOk, Ok, Err, Result, ap, ◌∙◌}
 use Rattle.std.proofs.lemmas.List.{append_assoc}
 
 module _ {E : Type 0} where

@@ -1,13 +1,13 @@
 -- A row of bytes is a line exactly if it is the text of what it says. Assumes nothing.
-use Rattle.std.proofs.Common.{◌≡◌, ℕ, suc, ◌+◌, ◌<◌, ◌≤◌, Bool, true, false, cond, not, ◌&&◌, ◌||◌, eqb, leb, List, [], ◌∷◌, ◌++◌, length, get_or, drop, Some, None, codes, Option, sym, refl, ap, ◌∙◌, inl, inr, arith}
+use Rattle.std.proofs.Common.{◌≡◌, ℕ, Bool, true, false, not, ◌&&◌, eqb, leb, List, [], ◌∷◌, ◌++◌, length, drop, Some, None, codes, Option, sym, refl, ap, ◌∙◌, inl, inr, arith}
 use Rattle.std.proofs.lemmas.List.{append-nil, append_assoc, drop_at}
 use Rattle.std.proofs.lemmas.Slice.Eq.{bytes_eq-Decides}
-use Rattle.std.proofs.lemmas.Bool.{and_parts, and_from, and_left, or_parts, or_cases, eqb-true, eq-eqb, ne_eqb, cases_Bool, cond-true, cond-false, not-true, leb-true, both_ways}
+use Rattle.std.proofs.lemmas.Bool.{and_parts, and_from, and_left, or_parts, eqb-true, eq-eqb, cases_Bool, cond-true, cond-false, not-true, both_ways}
 use Rattle.std.specs.Option.{option_map}
 use Rattle.std.specs.Str.{bytes_eq}
-use Rattle.lines.specs.Words.{begins, Halves, after_all, cut, Split, split_in, split_off}
+use Rattle.lines.specs.Words.{begins, Halves, after_all, cut, split_in, split_off}
 use Rattle.lines.specs.Names.{name_byte, name_bytes, characters, no_space_at_ends, well_formed, is_text, unknown, and_here, has_and, and_first, is_name, name_in}
-use Rattle.lines.specs.Grammar.{Line, Parents, parents_text, died_text, spouse_text, line_text, names_maybe, all_names, spouse_in, died_in, mother_in, with_father, both_parents, mother_alone, parents_cut, parents_in, joined_up, before_spouse, before_death, before_parents, read_line, OneForm}
+use Rattle.lines.specs.Grammar.{Line, Parents, parents_text, died_text, spouse_text, line_text, names_maybe, all_names, spouse_in, died_in, mother_in, with_father, both_parents, mother_alone, parents_cut, parents_in, joined_up, read_line}
 use Rattle.lines.proofs.Cuts.{begins_true, begins_self, cut_here, cut_other, mapped_after}
 use Rattle.lines.proofs.Readings.{read_pieces}
 

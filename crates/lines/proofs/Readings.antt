@@ -1,8 +1,8 @@
 -- Reading a line piece by piece. Assumes nothing.
-use Rattle.std.proofs.Common.{◌≡◌, ℕ, Bool, List, [], Some, None, codes, Option, sym, refl, ap, ◌∙◌}
+use Rattle.std.proofs.Common.{◌≡◌, ℕ, Bool, List, Some, None, codes, Option, ap, ◌∙◌}
 use Rattle.lines.specs.Words.{Split, split_off}
 use Rattle.lines.specs.Names.{name_in}
-use Rattle.lines.specs.Grammar.{Line, Parents, spouse_in, died_in, parents_in, joined_up, read_line}
+use Rattle.lines.specs.Grammar.{Parents, spouse_in, died_in, parents_in, joined_up, read_line}
 
 -- the pieces that a line is cut into
 pub read_pieces :

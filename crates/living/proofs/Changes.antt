@@ -1,5 +1,5 @@
 -- Births and deaths keep the set of the lines that live. Assumes nothing.
-use Rattle.std.proofs.Common.{◌≡◌, ℕ, suc, ◌<◌, ◌≤◌, true, false, ◌||◌, eqb, ◌≢◌, ◌⊎◌, [], ◌∷◌, ◌++◌, length, set, sym, refl, ap, ◌∙◌, inl, inr, ⊎_elim, arith}
+use Rattle.std.proofs.Common.{◌≡◌, ℕ, suc, ◌<◌, ◌≤◌, true, false, ◌||◌, eqb, ◌≢◌, [], ◌∷◌, ◌++◌, length, set, sym, refl, ap, ◌∙◌, inl, inr, ⊎_elim, arith}
 use Rattle.std.proofs.lemmas.List.{length_push, length-set, get_or_push, get_or_append_left, get_or-set_same, get_or-set_other}
 use Rattle.std.proofs.lemmas.Bool.{cases_eq, cases_lt, both_ways}
 use Rattle.law.specs.Family.{Person, person, Family, nobody, is_child, some_of}
@@ -9,7 +9,7 @@ use Rattle.theory.proofs.Families.{past_nobody, child_there, child_same, parents
 use Rattle.theory.proofs.Children.{children_same}
 use Rattle.theory.proofs.Living.{alive_past, alive_law, alive_self, alive_parent, alive_cases, alive_one_set}
 use Rattle.living.specs.Marks.{begun, ended}
-use Rattle.living.proofs.Raising.{none, support_lives, support_child, support_cases, begun_alive}
+use Rattle.living.proofs.Raising.{support_lives, support_child, support_cases, begun_alive}
 use Rattle.living.proofs.Lowering.{ended_alive}
 
 -- somebody begins to live: who lived lives, who has a child has it, and nobody has a new child but c, or had none before that lives

@@ -1,6 +1,5 @@
 -- Laws of going down a list and of leaving it. Assumes nothing.
-use Rattle.std.proofs.Common.{◌≡◌, ℕ, zero, suc, ◌+◌, ◌-◌, ◌<◌, ◌≤◌, Bool, false, ◌≢◌, List, [], ◌∷◌, length, get_or, drop, set, replicate, sum, sym, refl, ap, ◌∙◌, subst, arith}
-use Rattle.std.specs.List.{AllByRecursion}
+use Rattle.std.proofs.Common.{◌≡◌, ℕ, zero, suc, ◌+◌, ◌-◌, ◌<◌, ◌≤◌, Bool, false, List, [], ◌∷◌, length, get_or, drop, set, replicate, sum, sym, refl, ap, ◌∙◌, arith}
 use Rattle.std.proofs.lemmas.List.{drop_more, drop_all, get_or-set_same, get_or-set_other, set-set, set-get_or, length-replicate}
 use Rattle.std.proofs.ByRecursion.{All-weaker, All-drop}
 use Rattle.law.specs.Family.{Family}
@@ -8,10 +7,10 @@ use Rattle.amounts.specs.Passes.{is_in, added_each, handed_on, filled_up, cleare
 use Rattle.amounts.specs.Lines.{divided_among}
 use Rattle.amounts.proofs.Cleared.{replicate_nothing, cleared_right}
 use Rattle.amounts.proofs.Upward.{length-filled, filled_other}
-use Rattle.amounts.proofs.Turns.{added_turn, added_fits}
+use Rattle.amounts.proofs.Turns.{added_fits}
 use Rattle.amounts.specs.Statements.{ClearedRight}
 use Rattle.passes.specs.Rows.{Rows}
-use Rattle.passes.specs.Listings.{order_row, no_list}
+use Rattle.passes.specs.Listings.{order_row}
 use Rattle.passes.specs.Heirs.{with_heir, heirs_of}
 use Rattle.passes.proofs.Walks.{lines_there}
 use Rattle.passes.proofs.Listings.{length-order}

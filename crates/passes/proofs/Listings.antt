@@ -1,21 +1,20 @@
 -- Laws of listing: who is listed by the row of counts, the rows with one more in front, and one line more. Assumes nothing.
-use Rattle.std.proofs.Common.{◌≡◌, ℕ, zero, suc, ◌+◌, ◌-◌, ◌<◌, ◌≤◌, Bool, true, false, cond, eqb, leb, ◌≢◌, ◌⊎◌, List, [], ◌∷◌, ◌++◌, length, get_or, take, set, replicate, sum_by, sym, refl, ap, ◌∙◌, subst, inl, inr, ⊎_elim, arith}
+use Rattle.std.proofs.Common.{◌≡◌, ℕ, zero, suc, ◌+◌, ◌-◌, ◌<◌, ◌≤◌, Bool, true, false, leb, ◌≢◌, List, [], ◌∷◌, ◌++◌, length, get_or, take, set, replicate, sum_by, sym, refl, ap, ◌∙◌, subst, ⊎_elim, arith}
 use Rattle.std.specs.List.{AllByRecursion}
 use Rattle.std.proofs.lemmas.List.{take_more, get_or-set_same, get_or-set_other, length-set, length-replicate, get_or-replicate}
 use Rattle.std.proofs.ByRecursion.{All-get_or}
 use Rattle.std.proofs.lemmas.List.Sums.{sum_by-cons}
 use Rattle.std.proofs.lemmas.Bool.{cases_eq, cases_Bool, cond-true, cond-false, cond_both}
 use Rattle.law.specs.Family.{Family, Part}
-use Rattle.theory.specs.Families.{Ranked}
 use Rattle.theory.specs.Living.{alive}
-use Rattle.amounts.specs.Passes.{is_in, all_listed, listed_in, InDescentOrder, filled_up, few, count_step, multiple_step}
+use Rattle.amounts.specs.Passes.{is_in, all_listed, listed_in, InDescentOrder, filled_up, few, count_step}
 use Rattle.amounts.specs.Lines.{divided_among}
 use Rattle.amounts.specs.Statements.{Listing}
-use Rattle.amounts.proofs.Members.{in_here, in_later, in_cases, in_none}
+use Rattle.amounts.proofs.Members.{in_cases, in_none}
 use Rattle.amounts.proofs.Upward.{length-filled, filled_other}
 use Rattle.amounts.proofs.Listing.{alive_there, divided_among_lives, line_listed}
 use Rattle.passes.specs.Rows.{Rows, Rowed}
-use Rattle.passes.specs.Listings.{order_row, counts_row, multiples_row, listed_rows, Ready, LineListed}
+use Rattle.passes.specs.Listings.{order_row, counts_row, listed_rows, Ready}
 
 pub length-order : (n : ℕ) (os : List ℕ) → length (order_row n os) ≡ n
 unfolding order_row

@@ -1,5 +1,5 @@
 -- The heirs among those who are listed, and rows that are cleared along the list. Assumes nothing: these are definitions.
-use Rattle.std.specs.Prelude.{ℕ, Bool, cond, List, [], ◌∷◌, set, ◌==◌, slice_index, slice_set}
+use Rattle.std.specs.Prelude.{ℕ, Bool, cond, List, [], ◌∷◌, ◌==◌, slice_index, slice_set}
 use Rattle.bits.specs.Sets.{with_member}
 use Rattle.passes.specs.Rows.{Rows}
 

@@ -1,5 +1,5 @@
 -- Listing the persons of living lines, with what each line comes to. Assumes nothing: these are definitions.
-use Rattle.std.specs.Prelude.{◌≡◌, ℕ, suc, ◌+◌, ◌<◌, ◌≤◌, Bool, true, List, [], ◌∷◌, length, replicate, slice_set}
+use Rattle.std.specs.Prelude.{◌≡◌, ℕ, suc, ◌+◌, ◌≤◌, Bool, true, List, [], ◌∷◌, length, replicate, slice_set}
 use Rattle.law.specs.Family.{Family, Part}
 use Rattle.theory.specs.Families.{Ranked}
 use Rattle.theory.specs.Living.{alive}

@@ -6,7 +6,6 @@ use Rattle.kinship.specs.declared.Cause.{Cause}
 use Rattle.kinship.specs.declared.Cause.TheVariants.{IsDecedent, NotThere, Dead, NearerOrder, LivingForebear, NotOfFamily}
 use Rattle.why.specs.Explained.{LinePart, explanations}
 use Rattle.why.specs.declared.Fraction.{Fraction}
-use Rattle.why.specs.declared.Reasons.{Reasons}
 use Rattle.why.specs.declared.Answer.{Answer}
 use Rattle.why.specs.declared.Answer.TheVariants as answer
 

@@ -1,7 +1,7 @@
 // The lines that say why somebody has a share of an estate, by names or by numbers.
 #![tactic(auto)]
 
-ghost use Rattle.std.specs.Prelude.{◌≡◌, List, [], ◌∷◌, ◌++◌, map, string_bytes, OnOk};
+ghost use Rattle.std.specs.Prelude.{◌≡◌, ◌++◌, string_bytes, OnOk};
 ghost use Rattle.std.specs.List.{flat_map};
 ghost use Rattle.theory.specs.Families.{WellFormed};
 ghost use Rattle.ways.specs.Rows.{family_of};

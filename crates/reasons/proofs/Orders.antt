@@ -3,17 +3,17 @@ use Rattle.std.proofs.Common.{◌≡◌, ℕ, zero, suc, ◌+◌, ◌-◌, ◌*�
 use Rattle.std.specs.List.{flat_map, AllByRecursion}
 use Rattle.std.proofs.lemmas.List.{append-nil, append_assoc, length-append, map-append}
 use Rattle.std.proofs.lemmas.List.Elements.{filter-append}
-use Rattle.std.proofs.ByRecursion.{All-weaker, All-append, all_kept_by, kept_by_passes}
-use Rattle.std.proofs.lemmas.Bool.{both_ways, cases_Bool, cases_eq, eqb-true, eqb-false, eq-eqb, ne_eqb, not_from_true, not_from_false, cond-true, cond-false, cond_both}
+use Rattle.std.proofs.ByRecursion.{All-weaker, All-append, kept_by_passes}
+use Rattle.std.proofs.lemmas.Bool.{eqb-true, cond_both}
 use Rattle.law.specs.Family.{Family, person, children, parents, known, line_lives, living_lines, side_lives, living_sides, order}
 use Rattle.theory.specs.Families.{Ranked}
 use Rattle.theory.proofs.Lists.{kept_cong, all_any, joined_append}
-use Rattle.theory.proofs.Lines.{stands_decedent, below_child, below_lives}
+use Rattle.theory.proofs.Lines.{stands_decedent, below_lives}
 use Rattle.descent.specs.Going.{TooLarge}
 use Rattle.descent.proofs.Going.{large_within}
-use Rattle.ways.specs.Ways.{Way, way_part, stands, line_ways_in, heads_ways, couple_ways, first_ways, second_ways, third_ways, relatives_ways}
-use Rattle.ways.specs.Going.{ways_below, Enough, Beyond, Went, Marks}
-use Rattle.ways.proofs.Going.{way_divided, line_large, enough_below}
+use Rattle.ways.specs.Ways.{Way, way_part, line_ways_in, heads_ways, couple_ways, first_ways, second_ways, third_ways, relatives_ways}
+use Rattle.ways.specs.Going.{ways_below, Enough, Beyond, Went}
+use Rattle.ways.proofs.Going.{way_divided, line_large}
 use Rattle.reasons.specs.declared.Lines.{Lines}
 use Rattle.reasons.specs.Estates.{side_in, LinesIn, Known, Put}
 

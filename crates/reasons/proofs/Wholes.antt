@@ -1,7 +1,7 @@
 -- The number of pieces that the ways of an estate are divided into. Assumes nothing.
-use Rattle.std.proofs.Common.{◌≡◌, ℕ, zero, suc, ◌+◌, ◌-◌, ◌*◌, ◌<◌, ◌≤◌, Bool, true, false, cond, not, ◌&&◌, eqb, leb, ◌⊎◌, List, [], ◌∷◌, ◌++◌, map, length, get_or, drop, is_some, Some, None, Option, sym, refl, ap, ◌∙◌, subst, ap₂, inl, inr, ⊎_elim, suc-mul, mul-le-mul_left, arith}
+use Rattle.std.proofs.Common.{◌≡◌, ℕ, zero, suc, ◌+◌, ◌-◌, ◌*◌, ◌<◌, ◌≤◌, Bool, true, false, cond, not, eqb, leb, List, [], ◌∷◌, ◌++◌, map, length, get_or, drop, is_some, Some, None, Option, sym, refl, ap, ◌∙◌, subst, ⊎_elim, suc-mul, arith}
 use Rattle.std.proofs.lemmas.List.{length-append, length-map, drop_more, drop_all, get_or-map}
-use Rattle.std.proofs.lemmas.Bool.{cases_Bool, and_left, and_right, not_from_true, eq-eqb, lt-leb, leb-true, leb-false, cond-true, cond-false}
+use Rattle.std.proofs.lemmas.Bool.{and_left, and_right, not_from_true, eq-eqb, lt-leb}
 use Rattle.law.specs.Family.{Family, Part, person, repeated, order, has_living_spouse, estate}
 use Rattle.law.specs.Calls.{common_multiple}
 use Rattle.theory.specs.Multiples.{lcm}
@@ -9,10 +9,9 @@ use Rattle.theory.proofs.Parts.{length-repeated}
 use Rattle.descent.specs.Going.{TooLarge}
 use Rattle.shares.specs.Parts.{lead_parts, whole_row, dividable, word_number, number_of}
 use Rattle.shares.specs.declared.Part.{Part as PartStruct}
-use Rattle.shares.proofs.Multiples.{multiple_on, multiple_off, multiple_end, multiple_row, number_many, number_none, number_some, number_lead, word_some}
+use Rattle.shares.proofs.Multiples.{multiple_on, multiple_off, multiple_end, multiple_row, number_none, number_some, word_some}
 use Rattle.succession.specs.Orders.{spouse_in}
 use Rattle.ways.specs.Ways.{way_part, spouse_by, spouse_ways, kin_ways, relatives_up}
-use Rattle.ways.specs.Ways as ways
 use Rattle.ways.specs.Going.{Beyond}
 use Rattle.ways.specs.Rows.{law_way, law_ways}
 use Rattle.ways.specs.declared.Way.{Way}

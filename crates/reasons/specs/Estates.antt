@@ -1,7 +1,7 @@
 -- The lines that an estate goes by, and the ways of the whole estate. Assumes nothing: these are definitions.
-use Rattle.std.specs.Prelude.{◌≡◌, ℕ, ◌+◌, ◌<◌, ◌≤◌, Bool, true, false, cond, List, [], ◌∷◌, ◌++◌, map, length, Some, None, vec_items, filter, Option}
+use Rattle.std.specs.Prelude.{◌≡◌, ℕ, ◌<◌, ◌≤◌, Bool, true, false, List, [], ◌∷◌, ◌++◌, length, Some, None, vec_items, filter, Option}
 use Rattle.std.specs.List.{flat_map}
-use Rattle.law.specs.Family.{Family, person, children, parents, known, living_lines, estate, order}
+use Rattle.law.specs.Family.{Family, person, children, parents, known, estate}
 use Rattle.law.specs.Calls.{common_multiple}
 use Rattle.theory.specs.Families.{Ranked}
 use Rattle.shares.specs.Parts.{dividable}

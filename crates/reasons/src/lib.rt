@@ -1,13 +1,13 @@
 // Why somebody has a share of an estate: the ways by which its parts come to them.
 #![tactic(auto)]
 
-ghost use Rattle.std.specs.Prelude.{◌≡◌, ℕ, suc, ◌+◌, ◌*◌, ◌<◌, ◌≤◌, Bool, true, false, List, [], ◌∷◌, ◌++◌, map, length, IfOk, if◌then◌else◌, vec_len, filter, OnOk, nat_eq, nat_le};
+ghost use Rattle.std.specs.Prelude.{◌≡◌, ℕ, ◌+◌, ◌*◌, ◌<◌, ◌≤◌, true, false, ◌++◌, map, length, IfOk, if◌then◌else◌, vec_len, filter, OnOk, nat_eq, nat_le};
 ghost use Rattle.std.specs.List.{AllByRecursion};
-ghost use Rattle.law.specs.Family.{person, known, children as law_children, parents as law_parents, line_lives, order as law_order, has_living_spouse};
+ghost use Rattle.law.specs.Family.{known, children as law_children, parents as law_parents, line_lives};
 ghost use Rattle.theory.specs.Families.{Ranked};
 ghost use Rattle.shares.specs.Parts.{lead_parts, whole_row, number_of};
 ghost use Rattle.succession.specs.Orders.{order_number, spouse_in};
-ghost use Rattle.ways.specs.Ways.{way_part, first_ways, heads_ways, third_ways, relatives_ways, spouse_by, relatives_up, relatives_by};
+ghost use Rattle.ways.specs.Ways.{way_part, first_ways, heads_ways, third_ways, relatives_ways};
 ghost use Rattle.ways.specs.Rows.{family_of, in_row, law_ways};
 ghost use Rattle.reasons.specs.Estates.{side_in, lead_ways, heir_ways, LinesIn, Known, Put, EstateRight, OutcomeRight};
 

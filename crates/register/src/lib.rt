@@ -1,7 +1,7 @@
 // A register of families in lent memory: each call is taken by the rules, or turned away with nothing changed.
 #![tactic(auto)]
 
-ghost use Rattle.std.specs.Prelude.{◌≡◌, ℕ, ◌+◌, ◌*◌, ◌<◌, ◌≤◌, true, false, List, length, Ok, Err, MatchOption, nat_lt};
+ghost use Rattle.std.specs.Prelude.{◌≡◌, ℕ, ◌≤◌, true, false, List, length, Ok, Err, MatchOption, nat_lt};
 ghost use Rattle.law.specs.Calls.{born, dies};
 ghost use Rattle.law.specs.Promise.{Right, RefusalKeeps};
 ghost use Rattle.rows.specs.Written.{written};

@@ -1,5 +1,5 @@
 -- Estates, way by way. Assumes nothing.
-use Rattle.std.proofs.Common.{◌≡◌, ℕ, suc, ◌+◌, ◌*◌, ◌<◌, ◌≤◌, Bool, true, false, cond, not, ◌&&◌, eqb, leb, ◌⊎◌, List, length, set, Some, None, Ok, Err, Option, Result, sym, refl, ap, ◌∙◌, subst, ⊎_elim, arith}
+use Rattle.std.proofs.Common.{◌≡◌, ℕ, ◌+◌, ◌*◌, ◌<◌, ◌≤◌, Bool, true, false, cond, eqb, List, length, set, Some, None, Ok, Err, Option, Result, sym, refl, ap, ◌∙◌, subst, ⊎_elim, arith}
 use Rattle.std.proofs.lemmas.Bool.{lt-ltb, le-ltb, eqb-true, cond-true, cond-false, cases_Bool}
 use Rattle.std.proofs.lemmas.List.{length-set}
 use Rattle.law.specs.Family.{Person, Family, person, estate}
@@ -7,7 +7,6 @@ use Rattle.law.specs.Calls.{Call, estate_of, Answer, refused, number, shares, re
 use Rattle.rows.specs.Written.{written}
 use Rattle.wire.specs.Bytes.{answer_bytes}
 use Rattle.wire.proofs.Bytes.{length-number, length-shares}
-use Rattle.theory.specs.Families.{WellFormed}
 use Rattle.theory.specs.Shares.{shares_of}
 use Rattle.theory.specs.Answers.{answer_taken}
 use Rattle.theory.specs.Decedent.{with_dead}
@@ -22,7 +21,7 @@ use Rattle.shares.specs.Parts.{dividable}
 use Rattle.succession.specs.Settling.{DeadThere, EstateSettled}
 use Rattle.service.specs.Desks.{limits, says, state}
 use Rattle.service.specs.Refusals.{outcome}
-use Rattle.service.specs.Service.{Served, Said, Replied, Put}
+use Rattle.service.specs.Service.{Served, Replied, Put}
 use Rattle.service.specs.declared.refusal.Refusal.{Refusal}
 use Rattle.service.specs.declared.refusal.Refusal.TheVariants.{NotThere, BeyondLimit}
 use Rattle.service.proofs.Serving.{refusal_served, taken_served}

@@ -1,5 +1,5 @@
 -- Weddings and partings, way by way. Assumes nothing.
-use Rattle.std.proofs.Common.{◌≡◌, ℕ, suc, ◌+◌, ◌-◌, ◌*◌, ◌<◌, ◌≤◌, true, false, cond, ◌&&◌, eqb, ◌≢◌, ◌⊎◌, List, length, set, replicate, sym, refl, ap, ◌∙◌, subst, ⊎_elim, add-one, arith}
+use Rattle.std.proofs.Common.{◌≡◌, ℕ, suc, ◌+◌, ◌-◌, ◌*◌, ◌<◌, ◌≤◌, true, false, cond, ◌&&◌, ◌≢◌, ◌⊎◌, List, length, set, replicate, sym, refl, ap, ◌∙◌, subst, ⊎_elim, add-one, arith}
 use Rattle.std.proofs.lemmas.Bool.{lt-ltb, le-ltb, eq-eqb, ne_eqb, cond-true, cond-false}
 use Rattle.std.proofs.lemmas.List.{length-set, get_or-set_other}
 use Rattle.law.specs.Family.{Person, Family, person, nobody}
@@ -8,7 +8,7 @@ use Rattle.rows.specs.Written.{written}
 use Rattle.theory.specs.Living.{alive}
 use Rattle.theory.specs.Answers.{answer_taken}
 use Rattle.theory.proofs.Families.{same_two, parents_two}
-use Rattle.theory.proofs.Refusals.{by_rules, wed_taken, parted_taken}
+use Rattle.theory.proofs.Refusals.{by_rules, wed_taken}
 use Rattle.children.specs.Links.{link_row}
 use Rattle.people.specs.Layout.{work_words, person_words, person_row, image, limit_in, family_in, rest_in, Valid, Sound}
 use Rattle.people.proofs.Layouts.{length-family, laid_same, working_set}

@@ -1,7 +1,7 @@
 // What each call does with the words of a register and the bytes of an answer: it is taken by the rules, or turned away with nothing changed.
 #![tactic(auto)]
 
-ghost use Rattle.std.specs.Prelude.{◌≡◌, ℕ, suc, ◌+◌, ◌*◌, ◌<◌, ◌≤◌, true, false, List, length, MatchOption, nat_lt};
+ghost use Rattle.std.specs.Prelude.{◌≡◌, ℕ, ◌+◌, ◌*◌, ◌<◌, ◌≤◌, true, false, List, length, MatchOption, nat_lt};
 ghost use Rattle.law.specs.Family.{Family, person};
 ghost use Rattle.law.specs.Calls.{born, wed as law_wed, parted, dies, estate_of, dead, with_spouse};
 ghost use Rattle.wire.specs.Bytes.{call_of, read};

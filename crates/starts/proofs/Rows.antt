@@ -1,12 +1,12 @@
 -- Starts one behind the other, for one forebear, two, and the sides of the grandparents. Assumes nothing.
-use Rattle.std.proofs.Common.{◌≡◌, ℕ, zero, suc, ◌+◌, ◌*◌, ◌<◌, ◌≤◌, Bool, true, false, cond, not, eqb, ◌⊎◌, List, [], ◌∷◌, ◌++◌, map, length, filter, sym, refl, ap, ◌∙◌, subst, ⊎_elim, arith}
+use Rattle.std.proofs.Common.{◌≡◌, ℕ, zero, suc, ◌+◌, ◌*◌, ◌≤◌, Bool, true, false, cond, eqb, List, [], ◌∷◌, ◌++◌, map, length, filter, sym, refl, ap, ◌∙◌, ⊎_elim, arith}
 use Rattle.std.specs.List.{flat_map}
-use Rattle.std.proofs.lemmas.List.{append_assoc, append-nil, length-append, length-map, map-append, nil_from_length}
+use Rattle.std.proofs.lemmas.List.{append_assoc, append-nil, length-append, map-append, nil_from_length}
 use Rattle.std.proofs.lemmas.List.Elements.{filter-append}
 use Rattle.std.proofs.lemmas.Bool.{cases_Bool, cond-true, cond-false, cond_both, not-false, eqb-true}
 use Rattle.law.specs.Family.{Family, Part, known, parents, side_lives}
 use Rattle.theory.specs.Living.{alive}
-use Rattle.theory.specs.Decedent.{kept_sides, kept_order}
+use Rattle.theory.specs.Decedent.{kept_order}
 use Rattle.theory.proofs.Lists.{joined_append}
 use Rattle.amounts.specs.Lines.{couple_starts, kept_starts}
 use Rattle.descent.specs.Going.{with_parts}

@@ -1,7 +1,7 @@
 // The lines that an estate begins with, by the order that inherits: at most four persons, each with one by so many. They are put into the words for parts.
 #![tactic(auto)]
 
-ghost use Rattle.std.specs.Prelude.{◌≡◌, ℕ, ◌+◌, ◌*◌, ◌<◌, ◌≤◌, List, [], length, filter};
+ghost use Rattle.std.specs.Prelude.{◌≡◌, ℕ, ◌<◌, ◌≤◌, List, [], length, filter};
 ghost use Rattle.law.specs.Family.{Family, Part as LawPart, known, side_lives};
 ghost use Rattle.theory.specs.Decedent.{kept_order};
 ghost use Rattle.people.specs.Layout.{limit_in, count_in, Roomy};

@@ -1,5 +1,5 @@
 -- The orders of succession as the code goes by them. Assumes nothing: these are definitions.
-use Rattle.std.specs.Prelude.{◌≡◌, ℕ, zero, suc, ◌+◌, ◌-◌, ◌*◌, ◌≤◌, Bool, false, cond, List, ◌++◌, length, Some, None, filter, Option}
+use Rattle.std.specs.Prelude.{◌≡◌, ℕ, zero, suc, ◌-◌, ◌*◌, ◌≤◌, Bool, false, cond, List, ◌++◌, length, Some, None, filter, Option}
 use Rattle.std.specs.List.{flat_map}
 use Rattle.law.specs.Family.{Family, Part, person, known, parents, couple_parts, side_lives, has_living_spouse}
 use Rattle.theory.specs.Families.{Ranked}

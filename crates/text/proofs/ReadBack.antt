@@ -1,5 +1,5 @@
 -- Reading what was printed gives the same family. Assumes nothing.
-use Rattle.std.proofs.Common.{◌≡◌, ℕ, zero, suc, ◌+◌, ◌-◌, ◌<◌, ◌≤◌, Bool, true, false, cond, not, ◌&&◌, eqb, ltb, ◌≢◌, List, [], ◌∷◌, ◌++◌, map, length, get_or, is_some, Some, None, Ok, Err, Option, Result, sym, refl, ap, ◌∙◌, subst, inl, inr, arith}
+use Rattle.std.proofs.Common.{◌≡◌, ℕ, zero, suc, ◌+◌, ◌-◌, ◌<◌, ◌≤◌, Bool, true, false, cond, not, ◌&&◌, eqb, ltb, ◌≢◌, List, [], ◌∷◌, ◌++◌, length, get_or, is_some, Some, None, Ok, Err, Option, Result, sym, refl, ap, ◌∙◌, subst, inl, inr, arith}
 use Rattle.std.proofs.lemmas.Slice.Eq.{bytes_eq-Decides}
 use Rattle.std.proofs.lemmas.List.{append-nil, append_assoc, length-append, length_push, map_push, get_or_at, get_or_append_left}
 use Rattle.std.proofs.lemmas.Bool.{cases_Bool, cases_lt, cases_eq, cond-true, cond-false, lt-ltb, eq-eqb, ne_eqb, and_from, and_left, and_right, not_from_true}
@@ -7,14 +7,14 @@ use Rattle.std.specs.Option.{option_map}
 use Rattle.std.specs.Str.{bytes_eq}
 use Rattle.law.specs.Family.{Person, person, nobody, Family}
 use Rattle.lines.specs.Names.{is_name}
-use Rattle.lines.specs.Words.{Halves, cut}
-use Rattle.lines.specs.Grammar.{Line, line_text, read_line, names_maybe, all_names}
+use Rattle.lines.specs.Words.{Halves}
+use Rattle.lines.specs.Grammar.{Line, line_text, names_maybe, all_names}
 use Rattle.lines.proofs.OneForm.{line_read, line_cut}
 use Rattle.text.specs.declared.Reason.{Reason}
 use Rattle.text.specs.declared.Reason.TheVariants.{SameParents, OwnParent, LaterParent, OwnSpouse}
 use Rattle.text.specs.declared.Fault.{Fault}
 use Rattle.text.specs.Households.{Household, ValidFamily, Valid}
-use Rattle.text.specs.Reading.{fault, names_of, place_of, Next, next_line, lines_in, parent_at, parent_in, spouse_at, spouse_of, person_with, person_made, person_of, persons_in, answered, agreed, with_names, with_spouses, persons_of, with_persons, read_family}
+use Rattle.text.specs.Reading.{fault, names_of, place_of, Next, next_line, lines_in, parent_at, parent_in, spouse_at, spouse_of, person_with, person_made, person_of, persons_in, answered, agreed, with_names, with_spouses, with_persons, read_family}
 use Rattle.text.specs.Printing.{name_from, name_at, line_for, lines_for, row, text_lines, family_text, ReadsBack, ReadAreValid, PrintedAgain}
 use Rattle.text.proofs.Collecting.{step, next_cut, next_said, next_new}
 use Rattle.text.proofs.Printed.{name_there, name_past}

@@ -1,19 +1,19 @@
 -- Only valid families are read. Assumes nothing.
-use Rattle.std.proofs.Common.{◌≡◌, ℕ, zero, suc, ◌+◌, ◌-◌, ◌<◌, ◌≤◌, Bool, true, false, cond, not, ◌&&◌, eqb, ltb, ◌≢◌, ◌⊎◌, List, [], ◌∷◌, ◌++◌, map, length, get_or, set, is_some, Some, None, Ok, Err, Option, Result, sym, refl, ap, ◌∙◌, subst, inl, inr, arith}
-use Rattle.std.proofs.lemmas.List.{length_push, length-append, length-map, length-set, map_push, append_assoc, get_or_append_left, get_or_push, get_or_past, get_or-set_same, get_or-set_other}
+use Rattle.std.proofs.Common.{◌≡◌, ℕ, zero, suc, ◌+◌, ◌-◌, ◌<◌, ◌≤◌, Bool, true, false, cond, not, ◌&&◌, eqb, ltb, ◌≢◌, List, [], ◌∷◌, ◌++◌, length, get_or, set, is_some, Some, None, Ok, Err, Option, Result, sym, refl, ap, ◌∙◌, subst, inl, inr, arith}
+use Rattle.std.proofs.lemmas.List.{length_push, length-map, length-set, map_push, get_or_append_left, get_or_push, get_or-set_same, get_or-set_other}
 use Rattle.std.proofs.lemmas.Slice.Eq.{bytes_eq-Decides}
 use Rattle.std.proofs.lemmas.Bool.{cases_Bool, cases_lt, cases_eq, cond-true, cond-false, ltb-true, eqb-true, eqb-false, eq-eqb, ne_eqb, and_parts, and_cases, not-false, both_ways}
 use Rattle.std.specs.Option.{option_map}
 use Rattle.std.specs.Str.{bytes_eq}
 use Rattle.law.specs.Family.{Person, person, nobody, Family}
 use Rattle.law.specs.Calls.{with_spouse}
-use Rattle.theory.proofs.Families.{person_push, same_set, married_there}
+use Rattle.theory.proofs.Families.{person_push, married_there}
 use Rattle.lines.specs.Names.{is_name}
 use Rattle.lines.specs.Words.{Halves, cut}
 use Rattle.lines.specs.Grammar.{Line, read_line, names_maybe}
 use Rattle.lines.proofs.OneForm.{line_back}
 use Rattle.text.specs.declared.Reason.{Reason}
-use Rattle.text.specs.declared.Reason.TheVariants.{NameTwice, TooMany, SameParents, SecondSpouse, ParentNotThere, OwnParent, LaterParent, OwnSpouse}
+use Rattle.text.specs.declared.Reason.TheVariants.{NameTwice, TooMany, SameParents, SecondSpouse, OwnParent, LaterParent, OwnSpouse}
 use Rattle.text.specs.declared.Fault.{Fault}
 use Rattle.text.specs.Households.{Household, ValidFamily, Valid}
 use Rattle.text.specs.Reading.{fault, names_of, place_of, Next, unused, readable, next_line, lines_in, parent_at, parent_in, spouse_at, spouse_of, person_with, person_made, person_of, persons_in, answered, agreed, with_names, with_spouses, persons_of, with_persons, read_family}

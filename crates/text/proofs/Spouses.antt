@@ -1,6 +1,6 @@
 -- Spouses who answer. Assumes nothing.
-use Rattle.std.proofs.Common.{◌≡◌, ℕ, zero, suc, ◌+◌, ◌-◌, ◌<◌, ◌≤◌, Bool, true, false, cond, eqb, ◌≢◌, List, [], ◌∷◌, map, length, get_or, set, Ok, Err, Result, sym, refl, ap, ◌∙◌, arith}
-use Rattle.std.proofs.lemmas.List.{get_or_past, set_past, map-set}
+use Rattle.std.proofs.Common.{◌≡◌, ℕ, zero, suc, ◌+◌, ◌-◌, ◌<◌, ◌≤◌, false, cond, eqb, ◌≢◌, List, [], ◌∷◌, map, length, get_or, set, Ok, Err, Result, sym, refl, ap, ◌∙◌, arith}
+use Rattle.std.proofs.lemmas.List.{get_or_past, set_past}
 use Rattle.std.proofs.lemmas.Bool.{eq-eqb, ne_eqb, cond-true, cond-false}
 use Rattle.law.specs.Family as law
 use Rattle.law.specs.Family.{person, nobody}
@@ -10,7 +10,7 @@ use Rattle.people.specs.declared.Person.{Person}
 use Rattle.text.specs.declared.Reason.{Reason}
 use Rattle.text.specs.declared.Reason.TheVariants.{SecondSpouse}
 use Rattle.text.specs.declared.Fault.{Fault}
-use Rattle.text.specs.Reading.{fault, answered_by, answered, agreed}
+use Rattle.text.specs.Reading.{fault, answered, agreed}
 
 -- past the last person of the code stands nobody, too
 abbrev pub nobody_there : Person

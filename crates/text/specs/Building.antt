@@ -1,6 +1,6 @@
 -- The calls that build a family: births, then weddings, then deaths, each by number. Assumes nothing: these are definitions.
 use Rattle.std.specs.Prelude.{◌≡◌, ℕ, suc, ◌-◌, cond, List, [], ◌∷◌, ◌++◌, nat_lt}
-use Rattle.law.specs.Family.{Person, Family}
+use Rattle.law.specs.Family.{Family}
 use Rattle.law.specs.Calls.{Call, born, wed, dies, Limits, refusal, after}
 use Rattle.law.specs.Promise.{ran, all_calls}
 use Rattle.text.specs.Households.{ValidFamily}

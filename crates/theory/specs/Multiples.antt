@@ -14,7 +14,7 @@ Coprime a b = (k x y : ℕ) → a ≡ k * x → b ≡ k * y → k ≡ 1
 abbrev pub lcm : ℕ → ℕ → ℕ
 lcm a b = a / gcd a b * b
 
--- common-multiple ps 1 is the least number that all parts divide, or that number is not below 2 to the 32nd.
+-- common_multiple ps 1 is the least number that all parts divide, or that number is not below 2 to the 32nd.
 unfoldable pub LeastMultiple : Type 0
 LeastMultiple =
     (ps : List Part) →

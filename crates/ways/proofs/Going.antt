@@ -1,9 +1,8 @@
 -- Going down lines: what one more line gives, and why going down stops. Assumes nothing.
-use Rattle.std.proofs.Common.{◌≡◌, ℕ, zero, suc, ◌+◌, ◌-◌, ◌*◌, ◌<◌, ◌≤◌, Bool, true, false, cond, ◌≢◌, ◌⊎◌, List, [], ◌∷◌, ◌++◌, map, length, get_or, take, drop, filter, sym, refl, ap, ◌∙◌, subst, inl, inr, ⊎_elim, arith}
+use Rattle.std.proofs.Common.{◌≡◌, ℕ, zero, suc, ◌+◌, ◌-◌, ◌*◌, ◌<◌, ◌≤◌, Bool, true, false, cond, ◌≢◌, List, [], ◌∷◌, ◌++◌, map, length, get_or, take, drop, filter, sym, refl, ap, ◌∙◌, subst, inl, inr, ⊎_elim, arith}
 use Rattle.std.specs.List.{flat_map, AllByRecursion}
-use Rattle.std.proofs.lemmas.List.{append_assoc, append-nil, length-append, take_more, take-append-drop, drop_more, map-append, length-map, take_all}
-use Rattle.std.proofs.ByRecursion.{All-get_or, all_kept_by}
-use Rattle.std.proofs.lemmas.Bool.{cases_eq, cases_Bool, both_ways, and_cases, not-false, eqb-true, or_cases, cond-true, cond-false}
+use Rattle.std.proofs.lemmas.List.{append_assoc, append-nil, length-append, take_more, take-append-drop, drop_more, map-append}
+use Rattle.std.proofs.lemmas.Bool.{cases_eq, both_ways, and_cases, not-false, eqb-true, or_cases, cond-true, cond-false}
 use Rattle.law.specs.Family.{Family, Part, person, is_child, children, some_of, line_lives, living_lines, line_parts_in, line_parts}
 use Rattle.law.specs.Calls.{common_multiple}
 use Rattle.theory.specs.Families.{Ranked}
@@ -16,7 +15,7 @@ use Rattle.theory.proofs.Multiples.{line_below}
 use Rattle.descent.specs.Going.{TooLarge}
 use Rattle.descent.proofs.Going.{large_within}
 use Rattle.ways.specs.Ways.{Way, way_part, stands, line_ways_in}
-use Rattle.ways.specs.Going.{ways_below, Enough, Beyond, Went, Marks}
+use Rattle.ways.specs.Going.{ways_below, Enough, Beyond, Marks}
 
 pub map-joined : {X A B : Type 0} (g : A → B) (h : X → List A) (xs : List X) → map g (flat_map h xs) ≡ flat_map (λ x. map g (h x)) xs
 map-joined g h [] = refl

@@ -1,14 +1,13 @@
 -- The ways of an estate are its parts. Assumes nothing.
-use Rattle.std.proofs.Common.{◌≡◌, ℕ, zero, suc, ◌+◌, ◌-◌, ◌*◌, ◌/◌, Bool, true, false, cond, eqb, List, [], ◌∷◌, ◌++◌, map, length, sym, refl, ap, ◌∙◌, subst, ap₂, inl, inr, one-mul, mul-add, arith}
-use Rattle.std.specs.List.{flat_map}
-use Rattle.std.proofs.lemmas.List.{append-nil, map-append}
+use Rattle.std.proofs.Common.{◌≡◌, ℕ, zero, suc, ◌+◌, ◌-◌, ◌*◌, ◌/◌, Bool, true, false, cond, eqb, List, [], ◌∷◌, ◌++◌, map, length, sym, refl, ap, ◌∙◌, ap₂, one-mul, mul-add, arith}
+use Rattle.std.proofs.lemmas.List.{append-nil}
 use Rattle.std.proofs.lemmas.Bool.{eqb-true}
 use Rattle.law.specs.Family.{Family, Part, person, parents, living_lines, living_sides, couple_parts, first_order, second_order, third_order, line_parts, order, relatives_parts, has_living_spouse, spouse_parts, repeated, estate}
 use Rattle.law.specs.Calls.{pieces}
 use Rattle.theory.proofs.Lists.{joined_cong, all_any}
 use Rattle.theory.proofs.Parts.{pieces_append, pieces_repeated}
-use Rattle.ways.specs.Ways.{Way, way_part, Reason, counted, line_ways, heads_ways, couple_ways, first_ways, second_ways, third_ways, relatives_ways, spouse_by, relatives_up, relatives_by, spouse_ways, kin_ways, estate_ways}
-use Rattle.ways.specs.Laws.{way_pieces, WaysAsParts, WaysAreParts}
+use Rattle.ways.specs.Ways.{Way, way_part, Reason, counted, line_ways, couple_ways, first_ways, second_ways, third_ways, relatives_ways, relatives_up, spouse_ways, kin_ways, estate_ways}
+use Rattle.ways.specs.Laws.{way_pieces, WaysAreParts}
 use Rattle.ways.proofs.Going.{map-joined, ways_forget}
 
 module _ (f : Family) (d : ℕ) where

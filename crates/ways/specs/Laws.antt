@@ -1,8 +1,8 @@
 -- Laws of the ways of an estate, in the words of the definitions. Each is a statement: a type whose proof is owed wherever a contract names it. Assumes nothing.
-use Rattle.std.specs.Prelude.{◌≡◌, ℕ, ◌+◌, ◌*◌, ◌/◌, Bool, cond, List, [], ◌∷◌, ◌++◌, map, ◌==◌}
-use Rattle.law.specs.Family.{Family, Part, relatives_parts, repeated, estate}
+use Rattle.std.specs.Prelude.{◌≡◌, ℕ, ◌+◌, ◌*◌, ◌/◌, cond, List, [], ◌∷◌, ◌++◌, map, ◌==◌}
+use Rattle.law.specs.Family.{Family, relatives_parts, repeated, estate}
 use Rattle.law.specs.Calls.{pieces}
-use Rattle.ways.specs.Ways.{Way, way_part, Reason, spouse_ways, kin_ways, relatives_up, relatives_ways, estate_ways}
+use Rattle.ways.specs.Ways.{way_part, Reason, spouse_ways, kin_ways, relatives_up, relatives_ways, estate_ways}
 
 -- If the estate is n pieces: how many somebody has by some ways.
 unfoldable pub way_pieces : ℕ → List Reason → ℕ → ℕ

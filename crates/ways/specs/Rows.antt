@@ -1,6 +1,5 @@
 -- The code's persons, ways and rows as those of the definitions. Assumes nothing: these are definitions.
 use Rattle.std.specs.Prelude.{ℕ, Bool, false, cond, ◌||◌, List, map, vec_items, ◌==◌, slice_index_or}
-use Rattle.law.specs.Family as law
 use Rattle.law.specs.Family.{Family, person, children, some_of}
 use Rattle.people.specs.Persons.{law_person}
 use Rattle.people.specs.declared.Person.{Person}

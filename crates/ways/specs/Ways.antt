@@ -1,5 +1,5 @@
 -- The ways by which an estate comes to its heirs: each part with the line of descent by which it came. Assumes nothing: these are definitions.
-use Rattle.std.specs.Prelude.{ℕ, zero, suc, ◌-◌, ◌*◌, Bool, cond, not, ◌&&◌, List, [], ◌∷◌, ◌++◌, map, length, filter, ◌==◌}
+use Rattle.std.specs.Prelude.{ℕ, zero, suc, ◌-◌, ◌*◌, Bool, cond, not, ◌&&◌, List, [], ◌∷◌, ◌++◌, map, length, ◌==◌}
 use Rattle.std.specs.List.{flat_map}
 use Rattle.law.specs.Family.{Family, Part, person, children, living_lines, parents, living_sides, order, has_living_spouse}
 

@@ -1,11 +1,11 @@
 // The ways by which an estate comes to its heirs, of a family that is given as a row of persons: every part with the line of descent by which it came.
 #![tactic(auto)]
 
-ghost use Rattle.std.specs.Prelude.{◌≡◌, ℕ, suc, ◌+◌, ◌*◌, ◌<◌, ◌≤◌, Bool, true, false, ◌&&◌, ◌⊎◌, List, [], ◌∷◌, ◌++◌, map, length, IfOk, cond, vec_len, filter, MatchOption, ◌==◌};
+ghost use Rattle.std.specs.Prelude.{◌≡◌, suc, ◌+◌, ◌*◌, ◌<◌, ◌≤◌, true, false, ◌&&◌, ◌⊎◌, [], ◌∷◌, ◌++◌, map, length, IfOk, cond, vec_len, filter, MatchOption, ◌==◌};
 ghost use Rattle.std.specs.List.{range_with_len};
 ghost use Rattle.law.specs.Family.{person, is_child as law_is_child, children, some_of, line_lives};
 ghost use Rattle.people.specs.Persons.{law_person};
-ghost use Rattle.ways.specs.Rows.{family_of, in_row, lives_next, law_way, law_ways};
+ghost use Rattle.ways.specs.Rows.{family_of, in_row, lives_next, law_ways};
 ghost use Rattle.ways.specs.Going.{Went, Marks};
 ghost use Rattle.ways.specs.Laws.{WaysAreParts};
 ghost use Rattle.ways.specs.Ways.{stands as law_stands};

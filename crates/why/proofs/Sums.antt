@@ -1,8 +1,8 @@
 -- What somebody's ways come to is the share that the estate names. Assumes nothing.
-use Rattle.std.proofs.Common.{◌≡◌, ℕ, ◌*◌, ◌/◌, ◌<◌, ◌≤◌, Bool, true, false, cond, not, ◌&&◌, eqb, leb, ◌≢◌, ◌⊎◌, List, [], ◌∷◌, ◌++◌, map, length, vec_items, filter, sym, refl, ap, ◌∙◌, subst, ap₂, inl, inr, arith}
+use Rattle.std.proofs.Common.{◌≡◌, ℕ, ◌/◌, ◌<◌, true, false, cond, not, eqb, leb, ◌≢◌, ◌⊎◌, List, [], ◌∷◌, ◌++◌, map, length, filter, sym, ap, ◌∙◌, ap₂, inl, inr, arith}
 use Rattle.std.proofs.lemmas.Bool.{and_parts, not-true, eqb-false, cases_Bool}
 use Rattle.law.specs.Family.{Family, Part, estate}
-use Rattle.law.specs.Calls.{Share, gcd, common_multiple, pieces, all_pieces, share_of}
+use Rattle.law.specs.Calls.{gcd, common_multiple, pieces, share_of}
 use Rattle.theory.specs.Families.{WellFormed}
 use Rattle.theory.specs.Shares.{shares_of}
 use Rattle.theory.proofs.Fractions.{same_fraction, cross}
@@ -12,12 +12,10 @@ use Rattle.theory.proofs.Shares.{shares_right}
 use Rattle.shares.specs.Parts.{dividable}
 use Rattle.shares.proofs.Estates.{estate_sound}
 use Rattle.ways.specs.Laws.{way_pieces}
-use Rattle.ways.specs.Ways.{Way, Reason, counted, spouse_ways, kin_ways, relatives_up, estate_ways}
-use Rattle.ways.specs.Rows.{law_ways}
+use Rattle.ways.specs.Ways.{Way, counted, spouse_ways, kin_ways, relatives_up, estate_ways}
 use Rattle.ways.proofs.Laws.{estate_pieces}
-use Rattle.reasons.specs.Estates.{lead_ways, DividedByWays}
+use Rattle.reasons.specs.Estates.{DividedByWays}
 use Rattle.reasons.specs.declared.Estate.{Estate}
-use Rattle.why.specs.declared.Fraction.{Fraction}
 use Rattle.std.specs.List.{AllByRecursion}
 use Rattle.kinship.specs.Causes.{NoWay}
 use Rattle.why.specs.Explained.{LinePart, line_part, lowest_terms, ends_at, parts_to, ways_to, share_for, ways_held}

@@ -1,11 +1,9 @@
 -- What is said of somebody's share: each part with the persons of its line, in lowest terms, and the sum. Assumes nothing: these are definitions.
-use Rattle.std.specs.Prelude.{◌≡◌, ℕ, ◌/◌, ◌<◌, ◌≤◌, Bool, List, [], ◌∷◌, ◌++◌, map, length, vec_items, filter, ◌==◌}
+use Rattle.std.specs.Prelude.{ℕ, ◌/◌, Bool, List, ◌++◌, map, vec_items, filter, ◌==◌}
 use Rattle.law.specs.Family.{Family, estate}
-use Rattle.law.specs.Calls.{Share, share_of, gcd}
+use Rattle.law.specs.Calls.{share_of, gcd}
 use Rattle.theory.specs.Shares.{shares_of}
-use Rattle.shares.specs.Parts.{dividable}
 use Rattle.ways.specs.Ways.{Reason, counted, estate_ways}
-use Rattle.ways.specs.Ways as ways
 use Rattle.ways.specs.Rows.{law_ways}
 use Rattle.reasons.specs.Estates.{lead_ways}
 use Rattle.reasons.specs.declared.Estate.{Estate}

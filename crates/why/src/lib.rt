@@ -1,7 +1,7 @@
 // Why somebody has a share of an estate: every part that comes to them, with the persons of its line, and the sum.
 #![tactic(auto)]
 
-ghost use Rattle.std.specs.Prelude.{◌≡◌, ℕ, ◌+◌, ◌*◌, ◌/◌, ◌<◌, ◌≤◌, List, [], ◌∷◌, ◌++◌, map, length, IfOk, if◌then◌else◌, OnOk, nat_eq};
+ghost use Rattle.std.specs.Prelude.{◌≡◌, ◌+◌, ◌*◌, ◌/◌, ◌<◌, ◌++◌, map, length, IfOk, if◌then◌else◌, OnOk, nat_eq};
 ghost use Rattle.ways.specs.Laws.{way_pieces};
 ghost use Rattle.ways.specs.Rows.{family_of, law_ways};
 ghost use Rattle.ways.specs.Ways.{counted};

@@ -1,5 +1,5 @@
 -- The answer that a register wrote is read back from its bytes. Assumes nothing.
-use Rattle.std.proofs.Common.{◌≡◌, ℕ, ◌-◌, ◌<◌, List, length, take, string_bytes, sym, ap, ◌∙◌, arith}
+use Rattle.std.proofs.Common.{◌≡◌, ℕ, ◌-◌, ◌<◌, length, take, string_bytes, sym, ap, ◌∙◌, arith}
 use Rattle.rows.specs.Written.{written}
 use Rattle.law.specs.Calls.{Call, estate_of, call_number}
 use Rattle.wire.specs.Bytes.{call_bytes, read, answer_bytes, answer_read}

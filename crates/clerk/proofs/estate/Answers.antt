@@ -1,5 +1,5 @@
 -- The estate of somebody in a text. Assumes nothing.
-use Rattle.std.proofs.Common.{◌≡◌, ℕ, List, Ok, Err, Result, sym, refl, ap, ◌∙◌}
+use Rattle.std.proofs.Common.{ℕ, List, Result, sym, ap, ◌∙◌}
 use Rattle.std.proofs.lemmas.Result.{IfOk-weaker, IfOk-from_err}
 use Rattle.law.specs.Calls.{estate_of}
 use Rattle.theory.proofs.RightAnswers.{answer_right}

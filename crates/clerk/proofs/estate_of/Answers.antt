@@ -1,5 +1,5 @@
 -- The estate of somebody, by their name. Assumes nothing.
-use Rattle.std.proofs.Common.{◌≡◌, ℕ, List, [], ◌++◌, length, Ok, Err, vec_items, Option, sym, refl, ap, ◌∙◌, arith, Bor, Bor}
+use Rattle.std.proofs.Common.{ℕ, List, ◌++◌, length, Ok, vec_items, Option, ap, ◌∙◌, arith, Bor, Bor}
 use Rattle.std.proofs.lemmas.List.{length-map}
 use Rattle.std.proofs.lemmas.Result.{IfOk-from_err}
 use Rattle.law.specs.Calls.{estate_of}

@@ -1,12 +1,12 @@
 -- A call by its bytes. Assumes nothing.
-use Rattle.std.proofs.Common.{◌≡◌, ℕ, ◌-◌, List, [], ◌∷◌, length, take, sym, refl, ap, ◌∙◌, arith}
+use Rattle.std.proofs.Common.{ℕ, ◌-◌, List, [], ◌∷◌, length, refl, ap, ◌∙◌, arith}
 use Rattle.rows.specs.Written.{written}
 use Rattle.law.specs.Calls.{Call}
 use Rattle.wire.specs.Bytes.{answer_bytes}
 use Rattle.service.specs.Desks.{next, says}
 use Rattle.registry.specs.Stores.{bytes_in}
 use Rattle.registry_report.specs.Lines.{memory_of}
-use Rattle.clerk.proofs.Calling.{call_fits, call_back, call_long}
+use Rattle.clerk.proofs.Calling.{call_fits, call_back}
 use Rattle.clerk.proofs.make.Goals as goal
 
 -- the bytes before

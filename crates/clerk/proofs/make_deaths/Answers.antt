@@ -1,5 +1,5 @@
 -- All deaths. Assumes nothing.
-use Rattle.std.proofs.Common.{◌≡◌, map, sym, refl, ap, ◌∙◌, arith}
+use Rattle.std.proofs.Common.{map, ap, ◌∙◌, arith}
 use Rattle.std.proofs.lemmas.List.{length-map}
 use Rattle.law.specs.Family as law
 use Rattle.people.specs.Persons.{law_person}

@@ -1,5 +1,5 @@
 -- Births, then weddings, then deaths. Assumes nothing.
-use Rattle.std.proofs.Common.{◌≡◌, [], ◌++◌, map, sym, refl, ap, ◌∙◌}
+use Rattle.std.proofs.Common.{[], ◌++◌, map, sym, ap, ◌∙◌}
 use Rattle.law.specs.Promise.{Memory, left_by}
 use Rattle.people.specs.Persons.{law_person}
 use Rattle.service.specs.Desks.{desk}

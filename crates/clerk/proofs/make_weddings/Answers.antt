@@ -1,5 +1,5 @@
 -- All weddings. Assumes nothing.
-use Rattle.std.proofs.Common.{◌≡◌, ◌-◌, map, sym, refl, ap, ◌∙◌, arith}
+use Rattle.std.proofs.Common.{◌-◌, map, sym, ap, ◌∙◌, arith}
 use Rattle.std.proofs.lemmas.List.{length-map}
 use Rattle.law.specs.Family as law
 use Rattle.law.specs.Calls.{wed}

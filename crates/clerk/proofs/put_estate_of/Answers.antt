@@ -1,7 +1,7 @@
 -- The estate of somebody, by a register in just as many words as it asks for. Assumes nothing.
-use Rattle.std.proofs.Common.{◌≡◌, ℕ, List, [], map, length, vec_items, string_bytes, sym, refl, ap, ◌∙◌, arith}
+use Rattle.std.proofs.Common.{◌≡◌, List, [], map, length, vec_items, string_bytes, ap, ◌∙◌, arith}
 use Rattle.std.proofs.lemmas.List.{length-map}
-use Rattle.law.specs.Calls.{Answer, estate_of}
+use Rattle.law.specs.Calls.{estate_of}
 use Rattle.law.specs.Promise.{left_by}
 use Rattle.theory.specs.Answers.{answer_to}
 use Rattle.people.specs.Persons.{law_person}

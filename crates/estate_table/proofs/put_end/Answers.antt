@@ -1,4 +1,4 @@
-use Rattle.std.proofs.Common.{◌≡◌, ℕ, eqb, List, [], ◌∷◌, ◌++◌, length, string_bytes, codes, sym, ap, ◌∙◌}
+use Rattle.std.proofs.Common.{ℕ, eqb, List, [], ◌∷◌, ◌++◌, length, string_bytes, codes, sym, ap, ◌∙◌}
 use Rattle.std.proofs.lemmas.Bool.{cond-true, cond-false}
 use Rattle.why.specs.Explained.{ways_held}
 use Rattle.estate_table.proofs.put_end.Goals as goal

@@ -1,5 +1,4 @@
-use Rattle.std.proofs.Common.{◌≡◌, ℕ, List, ◌++◌, length, string_bytes, sym, ap, ◌∙◌}
-use Rattle.why.specs.Explained.{ways_held}
+use Rattle.std.proofs.Common.{ℕ, ◌++◌, length, string_bytes, sym, ap, ◌∙◌}
 use Rattle.ways.specs.Ways.{estate_ways}
 use Rattle.why.proofs.Sums.{held_ways}
 use Rattle.reason_lines.specs.Lines.{names_of}

@@ -1,5 +1,5 @@
-use Rattle.std.proofs.Common.{◌≡◌, ℕ, List, ◌++◌, string_bytes, codes, sym, refl, ap, ◌∙◌}
-use Rattle.why.specs.Explained.{explanation, explanations}
+use Rattle.std.proofs.Common.{ℕ, List, ◌++◌, string_bytes, codes, sym, ap, ◌∙◌}
+use Rattle.why.specs.Explained.{explanation}
 use Rattle.reason_lines.specs.Lines.{names_of, part_line}
 use Rattle.reason_lines.proofs.Texts.{two, row_more, row_all, joined_map}
 use Rattle.estate_table.specs.Tables.{under_line}

@@ -1,4 +1,4 @@
-use Rattle.std.proofs.Common.{◌≡◌, ℕ, ◌<◌, ◌≤◌, cond, ltb, List, [], ◌∷◌, ◌++◌, length, string_bytes, codes, sym, refl, ap, ◌∙◌, subst, arith}
+use Rattle.std.proofs.Common.{◌≡◌, ℕ, ◌<◌, cond, ltb, List, [], ◌∷◌, ◌++◌, length, string_bytes, codes, sym, refl, ap, ◌∙◌, subst}
 use Rattle.std.proofs.lemmas.List.{length-map}
 use Rattle.std.proofs.lemmas.Result.{IfOk-weaker}
 use Rattle.std.proofs.lemmas.Bool.{le-ltb, lt-ltb, cond-true, cond-false}
@@ -6,7 +6,7 @@ use Rattle.law.specs.Family.{Family, estate}
 use Rattle.people.specs.Persons.{law_person}
 use Rattle.shares.specs.Parts.{dividable}
 use Rattle.ways.specs.Rows.{family_of}
-use Rattle.reasons.specs.Estates.{OutcomeRight, DividedByWays}
+use Rattle.reasons.specs.Estates.{OutcomeRight}
 use Rattle.reason_lines.specs.Lines.{names_of}
 use Rattle.reason_lines.proofs.Texts.{appended}
 use Rattle.estate_table.specs.Tables.{table_text, table_said}

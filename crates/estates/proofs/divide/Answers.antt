@@ -1,4 +1,4 @@
-use Rattle.std.proofs.Common.{◌≡◌, ℕ, ◌<◌, length, replicate, Some, sym, refl, ap, ◌∙◌, subst, arith}
+use Rattle.std.proofs.Common.{◌≡◌, ◌<◌, replicate, Some, refl, ◌∙◌, subst, arith}
 use Rattle.theory.specs.Decedent.{kept_estate}
 use Rattle.theory.proofs.Multiples.{common_multiple_below}
 use Rattle.shares.specs.Parts.{lead_parts}

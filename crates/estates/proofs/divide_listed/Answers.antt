@@ -1,4 +1,4 @@
-use Rattle.std.proofs.Common.{◌≡◌, length, sym, refl, ap, ◌∙◌, arith}
+use Rattle.std.proofs.Common.{sym, ap, ◌∙◌}
 use Rattle.bits.specs.Sets.{no_member}
 use Rattle.shares.specs.Work.{work_of}
 use Rattle.people.specs.Layout.{working}

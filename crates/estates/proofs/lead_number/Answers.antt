@@ -1,4 +1,4 @@
-use Rattle.std.proofs.Common.{◌≡◌, sym, ap, ◌∙◌}
+use Rattle.std.proofs.Common.{sym, ap, ◌∙◌}
 use Rattle.law.specs.Calls.{common_multiple}
 use Rattle.shares.specs.Parts.{law_part, lead_parts}
 use Rattle.passes.proofs.Steps.{common_one, common_none}

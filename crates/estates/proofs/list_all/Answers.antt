@@ -1,10 +1,9 @@
-use Rattle.std.proofs.Common.{◌≡◌, ℕ, ◌+◌, ◌<◌, ◌≤◌, true, List, [], map, length, get_or, take, sym, refl, ap, ◌∙◌, subst, arith}
+use Rattle.std.proofs.Common.{◌≡◌, ℕ, ◌+◌, ◌<◌, ◌≤◌, true, List, [], length, get_or, take, sym, refl, ap, ◌∙◌, subst, arith}
 use Rattle.std.proofs.lemmas.List.{get_or-map, length-map, take_all}
 use Rattle.std.proofs.ByRecursion.{All-get_or}
 use Rattle.law.specs.Family.{Family, Part}
 use Rattle.theory.specs.Living.{alive}
-use Rattle.people.specs.Layout.{limit_in, count_in}
-use Rattle.shares.specs.Parts.{law_part}
+use Rattle.people.specs.Layout.{count_in}
 use Rattle.amounts.specs.Passes.{all_listed, listed_in}
 use Rattle.amounts.specs.Lines.{divided_among, starts_persons}
 use Rattle.amounts.specs.Statements.{Listing}

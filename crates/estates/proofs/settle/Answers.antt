@@ -1,4 +1,4 @@
-use Rattle.std.proofs.Common.{◌≡◌, ℕ, ◌+◌, ◌-◌, ◌*◌, ◌≤◌, cond, List, [], length, get_or, replicate, Some, None, sym, refl, ap, ◌∙◌, subst, arith}
+use Rattle.std.proofs.Common.{◌≡◌, ℕ, ◌*◌, cond, List, length, get_or, replicate, Some, None, sym, ap, ◌∙◌, arith}
 use Rattle.law.specs.Family.{Person, person, estate}
 use Rattle.law.specs.Calls.{shares}
 use Rattle.rows.specs.Written.{written}

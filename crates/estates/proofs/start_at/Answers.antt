@@ -1,4 +1,4 @@
-use Rattle.std.proofs.Common.{◌≡◌, ◌+◌, ◌*◌, get_or, sym, ap, ◌∙◌, arith}
+use Rattle.std.proofs.Common.{◌+◌, ◌*◌, arith}
 use Rattle.passes.proofs.Rows.{rowed_limit}
 use Rattle.estates.proofs.Areas.{start_words}
 use Rattle.estates.proofs.start_at.Goals as goal

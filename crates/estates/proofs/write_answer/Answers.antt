@@ -1,4 +1,4 @@
-use Rattle.std.proofs.Common.{◌≡◌, ℕ, ◌+◌, ◌-◌, ◌*◌, ◌<◌, ◌≤◌, List, ◌++◌, length, Some, None, sym, refl, ap, ◌∙◌, subst, arith}
+use Rattle.std.proofs.Common.{◌≡◌, ◌+◌, ◌-◌, ◌*◌, ◌<◌, ◌++◌, length, Some, None, sym, refl, ap, ◌∙◌, subst, arith}
 use Rattle.std.specs.List.{AllByRecursion}
 use Rattle.std.proofs.lemmas.Bool.{cond-false}
 use Rattle.law.specs.Family.{Part}
@@ -10,7 +10,7 @@ use Rattle.bits.specs.Sets.{no_member}
 use Rattle.people.specs.Layout.{working, limit_in, count_in}
 use Rattle.people.proofs.Layouts.{limit_working, count_working}
 use Rattle.shares.specs.Parts.{lead_parts, dividable}
-use Rattle.shares.specs.Work.{work_of, no_pieces, has_pieces, divided}
+use Rattle.shares.specs.Work.{no_pieces, has_pieces, divided}
 use Rattle.shares.proofs.Settling.{not_divided, settled_some}
 use Rattle.amounts.specs.Estates.{relatives_number, estate_starts}
 use Rattle.amounts.proofs.Orders.{kept_starts_few}

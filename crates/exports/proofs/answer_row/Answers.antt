@@ -1,4 +1,4 @@
-use Rattle.std.proofs.Common.{◌≡◌, length, pos, sym, ap, ◌∙◌, arith}
+use Rattle.std.proofs.Common.{sym, ◌∙◌, arith}
 use Rattle.service.specs.Refusals.{refusal_number, refusal_place}
 use Rattle.exports.proofs.Replies.{short_answer, called_taken, called_refused, few_refusals, bits_back, below_zero}
 use Rattle.exports.proofs.answer_row.Goals as goal

@@ -1,7 +1,7 @@
-use Rattle.std.proofs.Common.{◌≡◌, sym, refl, ap, ◌∙◌}
+use Rattle.std.proofs.Common.{sym, refl, ap, ◌∙◌}
 use Rattle.service.specs.Service.{left_by}
 use Rattle.service.specs.Refusals.{refusal_number, refusal_place}
-use Rattle.exports.specs.Results.{signed_refusal, signed_opening}
+use Rattle.exports.specs.Results.{signed_opening}
 use Rattle.exports.proofs.Replies.{few_refusals, bits_back, below_zero}
 use Rattle.exports.proofs.heirs_open.Goals as goal
 

@@ -1,4 +1,4 @@
-use Rattle.std.proofs.Common.{◌≡◌, ◌∙◌, arith}
+use Rattle.std.proofs.Common.{◌∙◌, arith}
 use Rattle.exports.specs.Results.{signed_refusal}
 use Rattle.exports.proofs.Replies.{few_refusals, bits_back}
 use Rattle.exports.proofs.signed_by.Goals as goal

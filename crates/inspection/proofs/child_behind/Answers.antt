@@ -1,4 +1,4 @@
-use Rattle.std.proofs.Common.{◌≡◌, ◌+◌, ◌-◌, length, sym, ap, ◌∙◌, arith}
+use Rattle.std.proofs.Common.{◌+◌, ◌-◌, sym, ap, ◌∙◌, arith}
 use Rattle.law.specs.Family.{children_in}
 use Rattle.children.specs.Links.{first_of}
 use Rattle.people.specs.Layout.{family_in}

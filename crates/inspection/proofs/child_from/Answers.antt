@@ -1,4 +1,4 @@
-use Rattle.std.proofs.Common.{sym, ap, ◌∙◌, arith}
+use Rattle.std.proofs.Common.{sym, ap, ◌∙◌}
 use Rattle.children.specs.Links.{first_of}
 use Rattle.people.specs.Layout.{family_in, count_in}
 use Rattle.inspection.proofs.Scans.{first_here, child_later, first_none}

@@ -1,4 +1,4 @@
-use Rattle.std.proofs.Common.{◌≡◌, ℕ, ◌+◌, ◌*◌, sym, ◌∙◌, arith}
+use Rattle.std.proofs.Common.{◌+◌, ◌*◌, sym, ◌∙◌, arith}
 use mathlib.Core.Bool.{false≢true}
 use Rattle.bits.specs.Sets.{member_in}
 use Rattle.people.specs.Layout.{limit_in}

@@ -1,7 +1,7 @@
 use Rattle.std.proofs.Common.{◌≡◌, ◌+◌, cond, length, sym, ap, ◌∙◌, arith}
 use Rattle.law.specs.Family.{children_in}
 use Rattle.children.specs.Links.{last_of}
-use Rattle.people.specs.Layout.{family_in, count_in}
+use Rattle.people.specs.Layout.{family_in}
 use Rattle.people.proofs.Layouts.{length-family}
 use Rattle.inspection.proofs.Scans.{last_none, last_more}
 use Rattle.inspection.proofs.last_child.Goals as goal

@@ -1,5 +1,5 @@
-use Rattle.std.proofs.Common.{◌≡◌, ◌+◌, ◌-◌, ◌&&◌, eqb, length, get_or, sym, refl, ap, ◌∙◌, inl, inr, arith}
-use Rattle.law.specs.Family.{Person, person, children_in, children}
+use Rattle.std.proofs.Common.{◌≡◌, ◌+◌, ◌-◌, ◌&&◌, eqb, length, get_or, sym, ap, ◌∙◌, inl, inr, arith}
+use Rattle.law.specs.Family.{Person, person, children_in}
 use Rattle.children.specs.Links.{first_of, behind}
 use Rattle.people.specs.Layout.{family_in, count_in}
 use Rattle.people.proofs.Layouts.{length-family, person_found}

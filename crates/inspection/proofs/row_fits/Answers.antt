@@ -1,4 +1,4 @@
-use Rattle.std.proofs.Common.{arith, rules}
+use Rattle.std.proofs.Common.{arith}
 use Rattle.people.proofs.Layouts.{length-family}
 use Rattle.inspection.proofs.row_fits.Goals as goal
 

@@ -1,9 +1,8 @@
-use Rattle.std.proofs.Common.{◌≡◌, ℕ, ◌<◌, Bool, true, List, map, length, vec_items, sym, ap, ◌∙◌, subst, arith}
+use Rattle.std.proofs.Common.{◌≡◌, ℕ, ◌<◌, Bool, List, map, length, vec_items, sym, ap, ◌∙◌, arith}
 use Rattle.std.specs.List.{range_with_len}
 use Rattle.std.proofs.lemmas.List.{length-map}
 use Rattle.std.proofs.lemmas.Result.{IfOk-weaker}
 use Rattle.law.specs.Family.{Family, line_lives}
-use Rattle.law.specs.Promise.{OfLine}
 use Rattle.theory.specs.Families.{Ranked}
 use Rattle.theory.proofs.Families.{ranked_same}
 use Rattle.people.specs.Persons.{law_person}

@@ -1,11 +1,9 @@
-use Rattle.std.proofs.Common.{◌≡◌, ℕ, ◌<◌, Bool, true, List, map, length, vec_items, sym, ap, ◌∙◌, subst, ap₂, arith}
+use Rattle.std.proofs.Common.{◌≡◌, Bool, true, List, vec_items, sym, ap, ◌∙◌, subst, ap₂, arith}
 use Rattle.std.proofs.lemmas.List.{length-map}
 use Rattle.std.proofs.lemmas.Bool.{not-false}
 use Rattle.law.specs.Family.{Person, person}
 use Rattle.people.specs.Persons.{law_person}
 use Rattle.ways.specs.Rows.{family_of, in_row}
-use Rattle.ways.proofs.Marks.{row_right}
-use Rattle.reasons.specs.Estates.{Known}
 use Rattle.reasons.proofs.KnownFamilies.{known_by}
 use Rattle.kinship.specs.Forebears.{LinesTo}
 use Rattle.kinship.specs.Causes.{order_in, cause_by, CauseHolds}

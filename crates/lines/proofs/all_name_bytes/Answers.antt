@@ -1,7 +1,7 @@
 -- All bytes may stand in a name. Assumes nothing.
-use Rattle.std.proofs.Common.{◌≡◌, ◌+◌, true, false, ◌&&◌, get_or, drop, sym, refl, ap, ◌∙◌, arith}
+use Rattle.std.proofs.Common.{◌+◌, ◌&&◌, drop, sym, ap, ◌∙◌, arith}
 use Rattle.std.proofs.lemmas.List.{drop_more, drop_all}
-use Rattle.lines.specs.Names.{name_byte, name_bytes}
+use Rattle.lines.specs.Names.{name_bytes}
 use Rattle.lines.proofs.all_name_bytes.Goals as goal
 
 pub returns-then-not-is_name_byte : goal.returns-then-not-is_name_byte

@@ -1,8 +1,7 @@
 -- The first place of a word. Assumes nothing.
-use Rattle.std.proofs.Common.{◌≡◌, ℕ, ◌+◌, ◌-◌, ◌<◌, ◌≤◌, true, List, length, take, drop, Some, None, sym, ap, ◌∙◌, arith}
+use Rattle.std.proofs.Common.{◌≡◌, ℕ, ◌+◌, ◌-◌, ◌<◌, ◌≤◌, true, List, length, take, drop, Some, sym, ap, ◌∙◌, arith}
 use Rattle.std.proofs.lemmas.List.{length-drop, take_rest}
-use Rattle.std.specs.Option.{option_map}
-use Rattle.lines.specs.Words.{begins, after_all, cut}
+use Rattle.lines.specs.Words.{begins}
 use Rattle.lines.proofs.Cuts.{begins_long, passed_none, passed_more, passed_all, passed_here}
 use Rattle.lines.proofs.cut.Goals as goal
 

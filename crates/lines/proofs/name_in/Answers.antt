@@ -1,6 +1,6 @@
 -- The name that bytes are. Assumes nothing.
-use Rattle.std.proofs.Common.{◌≡◌, Bool, true, false, cond, ◌&&◌, Some, None, sym, ap, ◌∙◌}
-use Rattle.lines.specs.Names.{well_formed, is_text, is_name}
+use Rattle.std.proofs.Common.{Bool, cond, ◌&&◌, Some, None, ap, ◌∙◌}
+use Rattle.lines.specs.Names.{is_text, is_name}
 use Rattle.lines.proofs.name_in.Goals as goal
 
 pub returns-then-is_well_formed : goal.returns-then-is_well_formed

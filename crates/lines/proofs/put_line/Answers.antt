@@ -1,5 +1,5 @@
 -- The line of an entry. Assumes nothing.
-use Rattle.std.proofs.Common.{◌≡◌, ℕ, cond, List, [], ◌∷◌, ◌++◌, is_ok, IfOk, Ok, Err, string_bytes, Result, sym, refl, ap, ◌∙◌, arith}
+use Rattle.std.proofs.Common.{◌≡◌, ℕ, cond, List, [], ◌∷◌, ◌++◌, is_ok, IfOk, Ok, Err, string_bytes, Result, ◌∙◌, arith}
 use lib.Utf8.{encode}
 use Rattle.std.proofs.lemmas.List.{append_assoc}
 use Rattle.lines.proofs.put_line.Goals as goal

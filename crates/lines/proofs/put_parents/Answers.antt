@@ -1,5 +1,5 @@
 -- What is printed of the parents. Assumes nothing.
-use Rattle.std.proofs.Common.{◌≡◌, ℕ, List, ◌++◌, string_bytes, codes, Option, sym, refl, ap, ◌∙◌}
+use Rattle.std.proofs.Common.{string_bytes, codes, sym}
 use Rattle.std.specs.Option.{option_map}
 use Rattle.lines.specs.Grammar.{parents_text}
 use Rattle.lines.proofs.Appended.{appended_two, same_text}

@@ -1,5 +1,5 @@
 -- What is printed of a spouse. Assumes nothing.
-use Rattle.std.proofs.Common.{◌≡◌, ℕ, List, ◌++◌, string_bytes, codes, Option, sym, refl, ap, ◌∙◌, Bor}
+use Rattle.std.proofs.Common.{ℕ, List, string_bytes, codes, Option, sym, ap, Bor}
 use Rattle.std.specs.Option.{option_map}
 use Rattle.lines.specs.Grammar.{spouse_text}
 use Rattle.lines.proofs.Appended.{appended_two}

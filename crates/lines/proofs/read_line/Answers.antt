@@ -1,8 +1,8 @@
 -- What a line says. Assumes nothing.
-use Rattle.std.proofs.Common.{◌≡◌, sym, refl, ap, ◌∙◌}
+use Rattle.std.proofs.Common.{ap, ◌∙◌}
 use Rattle.std.specs.Option.{option_map}
 use Rattle.lines.specs.Words.{split}
-use Rattle.lines.specs.Grammar.{said_by, parents}
+use Rattle.lines.specs.Grammar.{said_by}
 use Rattle.lines.proofs.Readings.{read_pieces, no_name, no_parents, no_death, no_spouse, all_there}
 use Rattle.lines.proofs.read_line.Goals as goal
 

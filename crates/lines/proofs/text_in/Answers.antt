@@ -1,5 +1,5 @@
 -- The text that bytes are. Assumes nothing.
-use Rattle.std.proofs.Common.{◌≡◌, Bool, true, false, cond, Some, None, sym, ap, ◌∙◌, inl, inr}
+use Rattle.std.proofs.Common.{Some, None, sym, ap, ◌∙◌, inl, inr}
 use Rattle.std.proofs.lemmas.Bool.{cases_Bool, cond-true, cond-false}
 use Rattle.lines.specs.Names.{is_text}
 use Rattle.lines.proofs.Texts.{text_from_utf8, utf8_from_text}

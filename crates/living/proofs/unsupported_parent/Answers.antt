@@ -1,4 +1,4 @@
-use Rattle.std.proofs.Common.{◌≡◌, suc, true, false, cond, eqb, ◌⊎◌, length, sym, refl, ap, ◌∙◌, inl, inr, ⊎_elim, arith, below_more}
+use Rattle.std.proofs.Common.{◌≡◌, suc, true, false, cond, eqb, length, sym, refl, ap, ◌∙◌, inl, inr, ⊎_elim, arith, below_more}
 use Rattle.law.specs.Family.{Person, person}
 use Rattle.children.specs.Links.{link_row}
 use Rattle.children.proofs.Walks.{walk_next}

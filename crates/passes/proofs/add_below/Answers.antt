@@ -1,4 +1,4 @@
-use Rattle.std.proofs.Common.{◌≡◌, ◌+◌, length, get_or, set, sym, refl, ap, ◌∙◌, subst, inl, inr, ⊎_elim, arith}
+use Rattle.std.proofs.Common.{◌+◌, get_or, set, sym, refl, ◌∙◌, subst, inl, inr, ⊎_elim, arith}
 use Rattle.amounts.specs.Passes.{added_each}
 use Rattle.amounts.specs.Lines.{divided_among}
 use Rattle.amounts.proofs.Turns.{added_turn, added_end}

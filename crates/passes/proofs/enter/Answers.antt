@@ -1,9 +1,8 @@
-use Rattle.std.proofs.Common.{◌≡◌, ℕ, suc, ◌+◌, ◌*◌, ◌<◌, ◌∷◌, length, get_or, set, replicate, sym, refl, ap, ◌∙◌, subst, arith}
+use Rattle.std.proofs.Common.{◌≡◌, ℕ, suc, ◌+◌, ◌*◌, ◌<◌, ◌∷◌, length, get_or, set, replicate, refl, ap, ◌∙◌, subst, arith}
 use Rattle.bits.specs.Sets.{no_member}
-use Rattle.people.specs.Layout.{limit_in}
 use Rattle.amounts.specs.Passes.{count_step, multiple_step}
 use Rattle.amounts.specs.Lines.{divided_among}
-use Rattle.passes.specs.Rows.{Rowed, with_order, with_counts}
+use Rattle.passes.specs.Rows.{Rowed}
 use Rattle.passes.specs.Listings.{order_row, counts_row, multiples_row, listed_rows}
 use Rattle.passes.proofs.Rows.{rowed_limit, order_set, counts_set, multiples_set}
 use Rattle.passes.proofs.Listings.{rows_same, order_front, filled_front, header_kept}

@@ -1,8 +1,8 @@
-use Rattle.std.proofs.Common.{◌≡◌, ℕ, suc, ◌+◌, ◌-◌, ◌*◌, ◌<◌, ◌≤◌, ◌⊎◌, List, length, get_or, sum, sym, refl, ap, ◌∙◌, subst, inl, inr, ⊎_elim, arith}
+use Rattle.std.proofs.Common.{◌≡◌, ℕ, suc, ◌+◌, ◌-◌, ◌*◌, ◌<◌, List, length, get_or, sym, refl, ap, ◌∙◌, subst, ⊎_elim, arith}
 use Rattle.std.proofs.ByRecursion.{All-weaker, All-get_or}
 use Rattle.law.specs.Family.{Family, Part}
 use Rattle.people.specs.Layout.{limit_in}
-use Rattle.amounts.specs.Passes.{handed_on, handed_down}
+use Rattle.amounts.specs.Passes.{handed_on}
 use Rattle.amounts.specs.Lines.{divided_among}
 use Rattle.amounts.specs.Statements.{Listing}
 use Rattle.amounts.proofs.Downward.{sum_handed_on}

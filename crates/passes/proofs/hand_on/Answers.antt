@@ -1,13 +1,12 @@
-use Rattle.std.proofs.Common.{◌≡◌, ◌+◌, ◌*◌, ◌/◌, ◌<◌, [], length, get_or, set, sum, sym, refl, ap, ◌∙◌, subst, arith}
-use Rattle.std.proofs.lemmas.List.{get_or-set_other, length-set}
+use Rattle.std.proofs.Common.{◌≡◌, ◌+◌, ◌*◌, ◌/◌, ◌<◌, length, get_or, set, sum, sym, refl, ap, ◌∙◌, subst, arith}
+use Rattle.std.proofs.lemmas.List.{get_or-set_other}
 use Rattle.std.proofs.ByRecursion.{All-weaker}
-use Rattle.law.specs.Family.{Family, Person, person}
-use Rattle.theory.specs.Living.{alive, lines_below}
+use Rattle.law.specs.Family.{Person, person}
+use Rattle.theory.specs.Living.{alive}
 use Rattle.children.specs.Links.{link_row}
-use Rattle.people.specs.Layout.{limit_in}
 use Rattle.people.specs.Persons.{law_person}
 use Rattle.people.proofs.Layouts.{person_laid}
-use Rattle.amounts.specs.Passes.{added_each, handed_on}
+use Rattle.amounts.specs.Passes.{added_each}
 use Rattle.amounts.specs.Lines.{divided_among}
 use Rattle.amounts.proofs.Downward.{handed_many, handed_on_most}
 use Rattle.passes.specs.Rows.{Rowed, rows_area, with_pieces}

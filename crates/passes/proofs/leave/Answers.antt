@@ -1,9 +1,8 @@
-use Rattle.std.proofs.Common.{◌≡◌, ℕ, ◌+◌, ◌*◌, ◌<◌, Bool, eqb, List, get_or, set, sym, refl, ap, ◌∙◌, subst, arith}
+use Rattle.std.proofs.Common.{◌≡◌, ℕ, ◌+◌, ◌*◌, ◌<◌, eqb, get_or, set, sym, ap, ◌∙◌, subst, arith}
 use Rattle.std.proofs.lemmas.List.{get_or-set_other}
 use Rattle.std.proofs.lemmas.Bool.{cond-true, cond-false, eq-eqb, ne_eqb}
-use Rattle.law.specs.Family.{Family, Part}
 use Rattle.bits.specs.Sets.{with_member}
-use Rattle.passes.specs.Rows.{Rows, Rowed, with_heirs}
+use Rattle.passes.specs.Rows.{Rowed, with_heirs}
 use Rattle.passes.specs.Heirs.{with_heir, left_rows}
 use Rattle.passes.proofs.Rows.{rowed_limit, pieces_read, heir_inserted, order_set, counts_set, multiples_set}
 use Rattle.passes.proofs.Listings.{header_kept}

@@ -1,9 +1,9 @@
-use Rattle.std.proofs.Common.{◌≡◌, ◌+◌, ◌*◌, ◌<◌, ◌≤◌, ◌⊎◌, length, get_or, take, sum_by, sym, refl, ap, ◌∙◌, inl, inr, ⊎_elim, arith}
+use Rattle.std.proofs.Common.{◌≡◌, ◌+◌, length, get_or, sum_by, sym, refl, ap, ◌∙◌, inl, inr, ⊎_elim, arith}
 use Rattle.std.proofs.lemmas.List.{take_all}
 use Rattle.law.specs.Calls.{common_multiple}
 use Rattle.amounts.specs.Passes.{few, numbered}
 use Rattle.amounts.specs.Lines.{divided_among}
-use Rattle.passes.specs.Rows.{Rows, rows_area}
+use Rattle.passes.specs.Rows.{rows_area}
 use Rattle.passes.proofs.Walks.{line_met, lines_met}
 use Rattle.passes.proofs.Rows.{rowed_limit, rowed_count}
 use Rattle.passes.proofs.Steps.{parts_more, common_more, common_none, parts_all, common_all}

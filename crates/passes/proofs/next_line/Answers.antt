@@ -1,12 +1,9 @@
-use Rattle.std.proofs.Common.{◌≡◌, ℕ, suc, ◌+◌, ◌<◌, Bool, true, false, cond, List, [], length, get_or, drop, filter, sym, refl, ap, ◌∙◌, ⊎_elim, arith}
-use Rattle.std.proofs.lemmas.List.{drop_more}
-use Rattle.std.proofs.lemmas.Bool.{cases_Bool, cond-true, cond-false}
-use Rattle.law.specs.Family.{Person, person, children}
-use Rattle.theory.specs.Living.{alive, lines_below}
+use Rattle.std.proofs.Common.{◌≡◌, suc, ◌+◌, length, get_or, drop, filter, sym, refl, ap, ◌∙◌, arith}
+use Rattle.law.specs.Family.{children}
+use Rattle.theory.specs.Living.{alive}
 use Rattle.amounts.specs.Lines.{divided_among}
-use Rattle.children.specs.Links.{link_row, first_of}
+use Rattle.children.specs.Links.{first_of}
 use Rattle.children.proofs.Walks.{walk_next}
-use Rattle.people.specs.Layout.{person_row}
 use Rattle.passes.proofs.Walks.{kept_stands, divided_dead, first_dropped}
 use Rattle.passes.proofs.next_line.Goals as goal
 

@@ -1,4 +1,4 @@
-use Rattle.std.proofs.Common.{◌≡◌, ℕ, suc, ◌+◌, ◌-◌, ◌*◌, ◌<◌, ◌≤◌, Bool, ◌⊎◌, List, ◌∷◌, length, get_or, drop, set, replicate, sym, refl, ap, ◌∙◌, subst, inl, inr, ⊎_elim, arith}
+use Rattle.std.proofs.Common.{◌≡◌, ℕ, suc, ◌+◌, ◌-◌, ◌*◌, ◌<◌, ◌≤◌, List, length, get_or, drop, set, replicate, sym, refl, ap, ◌∙◌, subst, ⊎_elim, arith}
 use Rattle.std.proofs.lemmas.List.{drop_more, length-drop}
 use Rattle.std.proofs.ByRecursion.{All-get_or}
 use Rattle.law.specs.Family.{Family, Part}
@@ -7,8 +7,8 @@ use Rattle.amounts.specs.Passes.{count_step, multiple_step, cleared}
 use Rattle.amounts.specs.Lines.{divided_among}
 use Rattle.amounts.specs.Statements.{Listing}
 use Rattle.passes.specs.Rows.{Rows, Rowed}
-use Rattle.passes.specs.Listings.{order_row, counts_row, multiples_row, no_list}
-use Rattle.passes.specs.Heirs.{with_heir, heirs_of, left_rows}
+use Rattle.passes.specs.Listings.{order_row, counts_row, multiples_row}
+use Rattle.passes.specs.Heirs.{with_heir, heirs_of}
 use Rattle.passes.proofs.Rows.{rowed_limit, order_read}
 use Rattle.passes.proofs.Downward.{order_last, order_left, filled_cleared, cleared_turn, cleared_end, heirs_turn, heirs_end, order_end, all_rows_same}
 use Rattle.passes.proofs.unlist.Goals as goal

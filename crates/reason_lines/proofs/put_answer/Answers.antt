@@ -1,4 +1,4 @@
-use Rattle.std.proofs.Common.{◌≡◌, string_bytes, sym, refl, ap, ◌∙◌}
+use Rattle.std.proofs.Common.{string_bytes, sym, ap}
 use Rattle.reason_lines.specs.Lines.{names_of, answer_lines}
 use Rattle.reason_lines.proofs.Texts.{appended}
 use Rattle.reason_lines.proofs.put_answer.Goals as goal

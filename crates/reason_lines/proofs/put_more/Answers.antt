@@ -1,4 +1,4 @@
-use Rattle.std.proofs.Common.{◌≡◌, ℕ, List, ◌++◌, get_or, string_bytes, codes, sym, refl, ap, ◌∙◌}
+use Rattle.std.proofs.Common.{◌++◌, get_or, string_bytes, codes, refl}
 use Rattle.reason_lines.specs.Lines.{names_of, person_text}
 use Rattle.reason_lines.proofs.Texts.{two, row_more, row_all}
 use Rattle.reason_lines.proofs.put_more.Goals as goal

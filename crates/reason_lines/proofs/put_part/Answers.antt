@@ -1,4 +1,4 @@
-use Rattle.std.proofs.Common.{◌≡◌, ℕ, List, [], ◌∷◌, ◌++◌, vec_items, string_bytes, sym, refl, ap, ◌∙◌}
+use Rattle.std.proofs.Common.{[], ◌∷◌, ◌++◌, vec_items, string_bytes, ap, ◌∙◌}
 use Rattle.reason_lines.specs.Lines.{names_of, fraction_text, line_text}
 use Rattle.reason_lines.proofs.Texts.{three}
 use Rattle.reason_lines.proofs.put_part.Goals as goal

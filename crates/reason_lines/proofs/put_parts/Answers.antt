@@ -1,6 +1,5 @@
-use Rattle.std.proofs.Common.{◌≡◌, ℕ, List, ◌++◌, string_bytes, sym, refl, ap, ◌∙◌}
-use Rattle.std.specs.List.{flat_map}
-use Rattle.why.specs.Explained.{explanation, explanations}
+use Rattle.std.proofs.Common.{ℕ, List, ◌++◌, string_bytes, sym, ap, ◌∙◌}
+use Rattle.why.specs.Explained.{explanation}
 use Rattle.reason_lines.specs.Lines.{names_of, part_line}
 use Rattle.reason_lines.proofs.Texts.{row_more, row_all, joined_map}
 use Rattle.reason_lines.proofs.put_parts.Goals as goal

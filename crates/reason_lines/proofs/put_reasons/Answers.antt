@@ -1,4 +1,4 @@
-use Rattle.std.proofs.Common.{◌≡◌, ℕ, List, [], ◌∷◌, ◌++◌, vec_items, string_bytes, codes, sym, refl, ap, ◌∙◌}
+use Rattle.std.proofs.Common.{[], ◌∷◌, ◌++◌, vec_items, string_bytes, codes, ap, ◌∙◌}
 use Rattle.std.specs.List.{flat_map}
 use Rattle.why.specs.Explained.{explanations}
 use Rattle.reason_lines.specs.Lines.{names_of, part_line, fraction_text}

@@ -1,13 +1,8 @@
-use Rattle.std.proofs.Common.{◌≡◌, ℕ, ◌<◌, Bool, List, map, length, vec_items, sym, ap, ◌∙◌, subst, arith}
-use Rattle.std.specs.List.{range_with_len}
+use Rattle.std.proofs.Common.{vec_items, subst, arith}
 use Rattle.std.proofs.lemmas.List.{length-map}
-use Rattle.law.specs.Family.{Family, line_lives}
-use Rattle.theory.specs.Families.{Ranked}
 use Rattle.people.specs.Persons.{law_person}
-use Rattle.people.specs.declared.Person.{Person}
-use Rattle.ways.specs.Rows.{family_of, in_row}
-use Rattle.ways.proofs.Marks.{row_right}
-use Rattle.reasons.specs.Estates.{Known, EstateRight}
+use Rattle.ways.specs.Rows.{family_of}
+use Rattle.reasons.specs.Estates.{EstateRight}
 use Rattle.reasons.proofs.KnownFamilies.{known_by}
 use Rattle.reasons.proofs.divide.Goals as goal
 

@@ -1,13 +1,12 @@
-use Rattle.std.proofs.Common.{◌≡◌, ℕ, Bool, true, false, cond, eqb, List, [], ◌++◌, map, is_some, Some, None, vec_items, sym, refl, ap, ◌∙◌, subst, ap₂}
+use Rattle.std.proofs.Common.{◌≡◌, ℕ, Bool, cond, eqb, List, [], ◌++◌, map, is_some, Some, None, vec_items, sym, ap, ◌∙◌, subst, ap₂}
 use Rattle.law.specs.Family.{Part, order, has_living_spouse, repeated, estate}
-use Rattle.law.specs.Calls.{common_multiple}
-use Rattle.shares.specs.Parts.{lead_parts, whole_row, dividable, number_of}
+use Rattle.shares.specs.Parts.{whole_row, number_of}
 use Rattle.succession.specs.Orders.{order_number}
 use Rattle.ways.specs.Ways.{way_part, relatives_ways, relatives_by, relatives_up, spouse_ways, kin_ways}
 use Rattle.ways.specs.Going.{Beyond}
 use Rattle.ways.specs.Rows.{family_of, law_ways}
 use Rattle.ways.proofs.Laws.{estate_forget}
-use Rattle.reasons.specs.Estates.{Known, Put, lead_ways, heir_ways}
+use Rattle.reasons.specs.Estates.{Put, lead_ways, heir_ways}
 use Rattle.reasons.proofs.Orders.{lines_order}
 use Rattle.reasons.proofs.Wholes.{beyond_refused, number_there, number_missing, spouse_lead, spouse_there, lead_forget}
 use Rattle.reasons.proofs.estate_of.Goals as goal

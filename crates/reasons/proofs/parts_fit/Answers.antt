@@ -1,4 +1,4 @@
-use Rattle.std.proofs.Common.{sym, arith}
+use Rattle.std.proofs.Common.{sym}
 use Rattle.std.proofs.lemmas.Bool.{lt-leb}
 use Rattle.reasons.proofs.Wholes.{many_listed}
 use Rattle.reasons.proofs.parts_fit.Goals as goal

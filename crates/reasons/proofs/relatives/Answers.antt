@@ -1,11 +1,11 @@
-use Rattle.std.proofs.Common.{◌≡◌, ℕ, ◌*◌, ◌≤◌, true, List, [], ◌++◌, length, vec_items, sym, refl, ap, ◌∙◌, subst}
+use Rattle.std.proofs.Common.{◌≡◌, ℕ, ◌*◌, ◌≤◌, true, List, ◌++◌, length, vec_items, sym, ap, ◌∙◌, subst}
 use Rattle.std.specs.List.{AllByRecursion}
 use Rattle.std.proofs.lemmas.Result.{IfOk-weaker}
 use Rattle.std.proofs.lemmas.List.{append-nil}
 use Rattle.law.specs.Family.{parents, line_lives}
-use Rattle.ways.specs.Ways.{heads_ways, relatives_ways, second_ways}
+use Rattle.ways.specs.Ways.{heads_ways}
 use Rattle.ways.specs.Rows.{family_of, in_row, law_ways}
-use Rattle.reasons.specs.Estates.{Known, Put}
+use Rattle.reasons.specs.Estates.{Put}
 use Rattle.reasons.proofs.Orders.{kept_living, kept_lives, parents_few, lines_order, ways_first, ways_second, ways_third, ways_nobody}
 use Rattle.reasons.proofs.relatives.Goals as goal
 

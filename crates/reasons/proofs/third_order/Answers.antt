@@ -1,11 +1,11 @@
-use Rattle.std.proofs.Common.{◌≡◌, ℕ, ◌+◌, ◌*◌, ◌≤◌, Bool, true, false, cond, eqb, List, ◌++◌, length, vec_items, vec_len, sym, refl, ap, ◌∙◌, subst, ap₂}
+use Rattle.std.proofs.Common.{◌≡◌, ℕ, ◌+◌, ◌*◌, ◌≤◌, Bool, true, cond, eqb, List, ◌++◌, length, vec_items, vec_len, sym, refl, ap, ◌∙◌, subst, ap₂}
 use Rattle.std.specs.List.{AllByRecursion}
 use Rattle.std.proofs.lemmas.Result.{IfOk-weaker}
 use Rattle.law.specs.Family.{person, line_lives}
-use Rattle.ways.specs.Ways.{Way, heads_ways, third_ways}
+use Rattle.ways.specs.Ways.{heads_ways}
 use Rattle.ways.specs.Going.{Beyond}
-use Rattle.ways.specs.Rows.{family_of, in_row, law_ways}
-use Rattle.reasons.specs.Estates.{side_in, LinesIn, Known, Put}
+use Rattle.ways.specs.Rows.{family_of, law_ways}
+use Rattle.reasons.specs.Estates.{side_in, Known, Put}
 use Rattle.reasons.specs.declared.Lines.{Lines}
 use Rattle.reasons.proofs.Orders.{one_if, third_is, beyond_first, put_both, side_few, side_kept, kept_lives}
 use Rattle.reasons.proofs.third_order.Goals as goal

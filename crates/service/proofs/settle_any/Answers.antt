@@ -1,4 +1,4 @@
-use Rattle.std.proofs.Common.{false, sym, ap, ◌∙◌}
+use Rattle.std.proofs.Common.{sym, ap, ◌∙◌}
 use Rattle.law.specs.Family.{Person}
 use Rattle.service.proofs.Estates.{dead_there}
 use Rattle.service.proofs.settle_any.Goals as goal

@@ -1,6 +1,5 @@
-use Rattle.std.proofs.Common.{◌≡◌, ℕ, ◌+◌, ◌-◌, ◌*◌, ◌⊎◌, List, [], ◌∷◌, length, get_or, sym, refl, ap, ◌∙◌, subst, ⊎_elim, arith}
+use Rattle.std.proofs.Common.{◌≡◌, ℕ, ◌+◌, ◌-◌, ◌*◌, List, [], ◌∷◌, length, get_or, sym, refl, ap, ◌∙◌, subst, ⊎_elim, arith}
 use borrow.Rule.Slice.PartMut.{put_mid}
-use Rattle.law.specs.Family.{known}
 use Rattle.rows.proofs.Written.{get_or-written_before}
 use Rattle.theory.specs.Living.{alive}
 use Rattle.bits.specs.Sets.{no_member}
@@ -10,7 +9,7 @@ use Rattle.people.specs.Layout.{person_row}
 use Rattle.people.proofs.Layouts.{limit_laid}
 use Rattle.descent.proofs.Rows.{work_written, part_put}
 use Rattle.succession.specs.Orders.{line_in}
-use Rattle.starts.specs.Starts.{start_row, PutBehind}
+use Rattle.starts.specs.Starts.{PutBehind}
 use Rattle.starts.proofs.Rows.{start_none, start_one, put_nothing}
 use Rattle.starts.proofs.start_of.Goals as goal
 

@@ -1,11 +1,10 @@
 -- The family that lines are. Assumes nothing.
-use Rattle.std.proofs.Common.{◌≡◌, ℕ, List, [], map, length, Ok, Err, vec_items, Result, sym, refl, ap, ◌∙◌, arith}
+use Rattle.std.proofs.Common.{◌≡◌, ℕ, List, [], map, length, Ok, Err, vec_items, Result, sym, ap, ◌∙◌, arith}
 use Rattle.std.proofs.lemmas.List.{length-map, with_items_is}
 use Rattle.law.specs.Family as law
 use Rattle.people.specs.Persons.{law_person}
 use Rattle.people.specs.declared.Person.{Person}
 use Rattle.text.specs.declared.Fault.{Fault}
-use Rattle.text.specs.Households.{Household, bytes_of}
 use Rattle.text.specs.Reading.{names_of, said_in, persons_in, agreed, with_names, with_spouses, told}
 use Rattle.text.proofs.family_of.Goals as goal
 

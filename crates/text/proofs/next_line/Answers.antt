@@ -1,5 +1,5 @@
 -- The next line. Assumes nothing.
-use Rattle.std.proofs.Common.{◌≡◌, true, false, is_some, Some, None, sym, ap, ◌∙◌, arith}
+use Rattle.std.proofs.Common.{is_some, Some, None, sym, ap, ◌∙◌, arith}
 use Rattle.std.proofs.lemmas.List.{length-map}
 use Rattle.lines.specs.Words.{halves}
 use Rattle.lines.specs.Grammar.{said_by}

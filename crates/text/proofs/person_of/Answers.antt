@@ -1,5 +1,5 @@
 -- The person of a line. Assumes nothing.
-use Rattle.std.proofs.Common.{◌≡◌, Ok, Err, sym, refl, ap, ◌∙◌}
+use Rattle.std.proofs.Common.{Ok, Err, ap, ◌∙◌}
 use Rattle.std.proofs.lemmas.Result.{err_from_is_err_and}
 use Rattle.text.specs.Outcomes.{person_said}
 use Rattle.text.specs.Reading.{person_of}

@@ -1,5 +1,5 @@
 -- The text of a family. Assumes nothing.
-use Rattle.std.proofs.Common.{◌≡◌, ℕ, List, [], ◌++◌, map, sym, refl, ap, ◌∙◌, Bor}
+use Rattle.std.proofs.Common.{◌≡◌, ℕ, List, [], ◌++◌, map, ap, ◌∙◌, Bor}
 use Rattle.people.specs.Persons.{law_person}
 use Rattle.people.specs.declared.Person.{Person}
 use Rattle.text.specs.Households.{bytes_of, household}

@@ -1,9 +1,7 @@
 -- The lines of persons. Assumes nothing.
-use Rattle.std.proofs.Common.{◌≡◌, ℕ, List, [], ◌++◌, map, length, get_or, string_bytes, sym, refl, ap, ◌∙◌, arith, Bor}
+use Rattle.std.proofs.Common.{ℕ, List, [], ◌++◌, map, string_bytes, sym, ap, ◌∙◌, arith, Bor}
 use Rattle.std.proofs.lemmas.List.{length-map}
-use Rattle.law.specs.Family.{person}
 use Rattle.people.specs.Persons.{law_person}
-use Rattle.people.specs.declared.Person.{Person}
 use Rattle.lines.specs.Grammar.{Line}
 use Rattle.text.specs.Households.{bytes_of}
 use Rattle.text.specs.Printing.{line_for, lines_for, row, text_lines}

@@ -4,7 +4,6 @@ use Rattle.std.proofs.lemmas.List.{map_push, length-map, length_push}
 use Rattle.lines.specs.Grammar.{Line, said_by}
 use Rattle.lines.specs.declared.Entry.{Entry}
 use Rattle.text.specs.declared.Fault.{Fault}
-use Rattle.text.specs.declared.Reason.{Reason}
 use Rattle.text.specs.Reading.{fault, Next, said_in, next_line, lines_in}
 use Rattle.text.proofs.Collecting.{next_few, lines_more, lines_fault, lines_all}
 use Rattle.text.proofs.read_entries.Goals as goal

@@ -1,14 +1,12 @@
-use Rattle.std.proofs.Common.{◌≡◌, ℕ, suc, ◌+◌, ◌-◌, ◌*◌, ◌<◌, ◌≤◌, Bool, true, false, List, [], ◌∷◌, ◌++◌, map, length, get_or, take, vec_items, vec_len, filter, sym, refl, ap, ◌∙◌, subst, inl, inr, ⊎_elim, arith}
-use Rattle.std.specs.List.{AllByRecursion}
+use Rattle.std.proofs.Common.{◌≡◌, ℕ, suc, ◌-◌, ◌*◌, ◌≤◌, List, [], ◌∷◌, ◌++◌, length, get_or, take, vec_items, sym, refl, ap, ◌∙◌, subst, inl, inr, ⊎_elim, arith}
 use Rattle.std.proofs.lemmas.List.{take_all, map-append, append-nil, length-map}
 use Rattle.std.proofs.ByRecursion.{All-get_or}
 use Rattle.std.proofs.lemmas.Bool.{both_ways}
 use Rattle.law.specs.Family.{children, line_lives, living_lines}
-use Rattle.theory.specs.Families.{Ranked}
 use Rattle.theory.proofs.Lists.{kept_cong, all_any}
-use Rattle.ways.specs.Ways.{Way, line_ways_in}
+use Rattle.ways.specs.Ways.{line_ways_in}
 use Rattle.ways.specs.Rows.{family_of, in_row, law_way, law_ways}
-use Rattle.ways.specs.Going.{ways_below, Enough, Beyond, Went, Marks}
+use Rattle.ways.specs.Going.{ways_below, Enough, Beyond, Went}
 use Rattle.ways.proofs.Going.{way_standing, way_divided, below_more, stopped_at, no_steps, enough_below, line_large, cond_holds, cond_fails, went_on}
 use Rattle.ways.proofs.+go_down.Goals as goal
 use Rattle.ways.proofs.+go_down.Goals.{then-stands+in_ok-went, else-stands+in_ok-below, in-Some+in_ok-went-in-Some, in-None}

@@ -1,10 +1,10 @@
-use Rattle.std.proofs.Common.{◌≡◌, ℕ, ◌+◌, Bool, List, map, length, vec_items, sym, refl, ap, ◌∙◌, arith}
+use Rattle.std.proofs.Common.{◌≡◌, ◌+◌, map, length, vec_items, sym, ap, ◌∙◌, arith}
 use Rattle.std.specs.List.{range_with_len}
 use Rattle.std.proofs.lemmas.Slice.Eq.{slice_eq-Decides}
 use Rattle.std.proofs.lemmas.List.{length-map}
 use Rattle.law.specs.Family.{line_lives}
 use Rattle.people.specs.Persons.{law_person}
-use Rattle.ways.specs.Rows.{family_of, in_row, lives_next}
+use Rattle.ways.specs.Rows.{family_of}
 use Rattle.ways.proofs.Marks.{seen, seen_none, seen_more, seen_same, seen_all}
 use Rattle.ways.proofs.living_lines.Goals as goal
 use Rattle.ways.proofs.living_lines.Goals.{else-loop-step-test, then-loop-step-test+in_ok-next+then-eq}

@@ -1,10 +1,10 @@
-use Rattle.std.proofs.Common.{◌≡◌, ℕ, ◌+◌, ◌<◌, ◌≤◌, List, [], ◌∷◌, ◌++◌, map, length, get_or, vec_items, sym, ap, ◌∙◌, subst, arith}
+use Rattle.std.proofs.Common.{◌≡◌, ◌<◌, ◌≤◌, List, ◌++◌, map, length, get_or, vec_items, sym, ap, ◌∙◌, subst, arith}
 use Rattle.std.proofs.lemmas.List.{append-nil}
 use Rattle.ways.specs.Laws.{way_pieces}
-use Rattle.ways.specs.Ways.{Reason, counted}
+use Rattle.ways.specs.Ways.{counted}
 use Rattle.ways.specs.declared.Way.{Way}
 use Rattle.reasons.specs.Estates.{lead_ways}
-use Rattle.why.proofs.Heirs.{so_far, so_far_none, so_far_all, pieces_more}
+use Rattle.why.proofs.Heirs.{so_far_none, so_far_all, pieces_more}
 use Rattle.why.proofs.pieces_of.Goals as goal
 
 pub loop-way-init : goal.loop-way-init

@@ -1,7 +1,7 @@
-use Rattle.std.proofs.Common.{◌≡◌, List, [], ◌∷◌, ◌++◌, vec_items, sym, ap, ◌∙◌}
+use Rattle.std.proofs.Common.{[], ◌∷◌, ◌++◌, vec_items, sym, ap, ◌∙◌}
 use Rattle.std.proofs.lemmas.List.{append-nil, map-append}
 use Rattle.why.specs.Explained.{LinePart, explanation, explanations, parts_to, lowest_terms}
-use Rattle.why.proofs.Heirs.{so_far, so_far_none, so_far_all, found_here, found_elsewhere}
+use Rattle.why.proofs.Heirs.{so_far_none, so_far_all, found_here, found_elsewhere}
 use Rattle.why.proofs.put_ways.Goals as goal
 use Rattle.why.proofs.put_ways.Goals.{then-way-heir+in_ok-reason+in_ok-push, else-way-heir}
 

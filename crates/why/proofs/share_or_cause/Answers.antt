@@ -1,9 +1,9 @@
-use Rattle.std.proofs.Common.{◌≡◌, ℕ, ◌<◌, List, [], ◌∷◌, length, vec_items, vec_len, sym, refl, ap, ◌∙◌, subst, arith}
+use Rattle.std.proofs.Common.{◌≡◌, List, [], ◌∷◌, length, vec_items, vec_len, sym, refl, ap, ◌∙◌, arith}
 use Rattle.std.proofs.lemmas.List.{length-map}
 use Rattle.std.proofs.lemmas.Bool.{eqb-true, eqb-false}
 use Rattle.people.specs.Persons.{law_person}
 use Rattle.ways.specs.Rows.{family_of}
-use Rattle.why.specs.Explained.{LinePart, explanation, explanations, parts_to, ways_to}
+use Rattle.why.specs.Explained.{explanation, explanations, parts_to, ways_to}
 use Rattle.why.proofs.Sums.{held_ways, pieces_fit, sum_right, no_way}
 use Rattle.why.proofs.share_or_cause.Goals as goal
 

@@ -1,4 +1,4 @@
-use Rattle.std.proofs.Common.{◌≡◌, map, sym, ap, ◌∙◌, arith}
+use Rattle.std.proofs.Common.{map, sym, ap, ◌∙◌}
 use Rattle.ways.specs.Laws.{way_pieces}
 use Rattle.ways.specs.Ways.{counted}
 use Rattle.reasons.specs.Estates.{lead_ways}
