@@ -56,13 +56,9 @@ pub fn next(memory: &[u32], at: usize, from: u32, end: u32) -> Option<u32>
         let word = memory[at + (p / 32) as usize] >> (p % 32);
         if word != 0 {
             let q = p + word.trailing_zeros();
-            return if q < end { Some(q) } else { None };
+            return (q < end).then_some(q);
         }
-        let left = 32 - p % 32;
-        if end - p <= left {
-            return None;
-        }
-        p += left;
+        p = p.checked_add(32 - p % 32)?;
     }
     None
 }

@@ -15,9 +15,7 @@ pub fn persons_in(heap: Global, memory: &[u32]) -> Result<Vec<Person>, AllocErro
     ensures value { IfOk result (λ v. family_of v.items ≡ family_in memory.now) }
     ensures formed { IfOk result (λ v. (Valid (family_in memory.now) → WellFormed (family_of v.items))) }
 {
-    let mut persons = Vec::new(heap);
-    for who in 0..memory[1] {
-        persons.push(people::read(memory, who))?;
-    }
-    Ok(persons)
+    (0..memory[1])
+        .map(|who| people::read(memory, who))
+        .collect(heap)
 }

@@ -7,7 +7,7 @@ ghost use Rattle.std.specs.Prelude.{◌≡◌, ◌+◌, ◌*◌, ◌<◌, ◌≤
 ghost use Rattle.children.specs.Links.{next_place, end_place, appended};
 
 // The words of one person, and the places of the links in them.
-const ROW: usize = 4;
+pub const ROW: usize = 4;
 
 const LAST: usize = 1;
 
@@ -86,38 +86,24 @@ pub fn append(links: &mut [u32], parent: u32, child: u32, by_mother: bool)
 mod tests {
     use super::*;
     use std::process::Abort;
-    use std::test::Fail;
 
     // Files a child under a parent; parents, and everybody's mother in `mothers`, are 0 or one more than a number.
-    fn file_under(
-        rt: &impl Abort,
-        links: &mut [u32],
-        mothers: &[u32; 6],
-        parent: u32,
-        child: u32,
-    ) -> Result<(), Fail> {
+    fn file_under(rt: &impl Abort, links: &mut [u32], mothers: &[u32; 6], parent: u32, child: u32) {
         if parent == 0 {
-            return Ok(());
+            return;
         }
         assert!(rt; links.len() == 24 && parent <= 6 && child < 6);
         let last = last(links, parent - 1);
         assert!(rt; last <= 6);
         let of_last = last != 0 && mothers[last as usize - 1] == parent;
         append(links, parent - 1, child, of_last);
-        Ok(())
     }
 
-    fn file_all(
-        rt: &impl Abort,
-        links: &mut [u32],
-        mothers: &[u32; 6],
-        fathers: &[u32; 6],
-    ) -> Result<(), Fail> {
-        for child in 0..6 {
-            file_under(rt, links, mothers, mothers[child as usize], child)?;
-            file_under(rt, links, mothers, fathers[child as usize], child)?;
+    fn file_all(rt: &impl Abort, links: &mut [u32], mothers: &[u32; 6], fathers: &[u32; 6]) {
+        for (child, (mother, father)) in (0..6).zip(mothers.iter().zip(fathers)) {
+            file_under(rt, links, mothers, *mother, child);
+            file_under(rt, links, mothers, *father, child);
         }
-        Ok(())
     }
 
     // Whether these are the children of a parent that are met along the links, each as one more than a number.
@@ -131,57 +117,54 @@ mod tests {
         assert!(rt; links.len() == 24 && parent < 6);
         let mut met = [0; 6];
         let mut link = first(links, parent);
-        for i in 0..6 {
+        for place in &mut met {
             if link == 0 {
                 break;
             }
             let child = link - 1;
             assert!(rt; child < 6);
-            met[i] = link;
+            *place = link;
             link = next(links, child, mothers[child as usize] == parent + 1);
         }
         assert_eq!(rt; met, children);
     }
 
     #[test]
-    fn several_children(rt: HostRuntime) -> Result<(), Fail> {
+    fn several_children(rt: HostRuntime) {
         let mothers = [0, 1, 1, 0, 1, 0];
         let mut links = [0; 24];
-        file_all(&rt, &mut links, &mothers, &[0, 0, 0, 0, 4, 4])?;
+        file_all(&rt, &mut links, &mothers, &[0, 0, 0, 0, 4, 4]);
         check_walk(&rt, &links, &mothers, 0, [2, 3, 5, 0, 0, 0]);
         check_walk(&rt, &links, &mothers, 3, [5, 6, 0, 0, 0, 0]);
         check_walk(&rt, &links, &mothers, 1, [0; 6]);
         assert_eq!(rt; last(&links, 0), 5);
-        Ok(())
     }
 
     // 0 and 1 are the mother of one child of theirs and the father of the other.
     #[test]
-    fn mother_and_father(rt: HostRuntime) -> Result<(), Fail> {
+    fn mother_and_father(rt: HostRuntime) {
         let mothers = [0, 0, 1, 2, 1, 0];
         let mut links = [0; 24];
-        file_all(&rt, &mut links, &mothers, &[0, 0, 2, 1, 0, 2])?;
+        file_all(&rt, &mut links, &mothers, &[0, 0, 2, 1, 0, 2]);
         check_walk(&rt, &links, &mothers, 0, [3, 4, 5, 0, 0, 0]);
         check_walk(&rt, &links, &mothers, 1, [3, 4, 6, 0, 0, 0]);
         assert_eq!(rt; next(&links, 3, true), 6);
         assert_eq!(rt; next(&links, 3, false), 5);
-        Ok(())
     }
 
     // 1 and 2 are children of 0, 3 and 4 theirs, and 5 is the child of both; the links lie in the middle of other words.
     #[test]
-    fn child_of_cousins(rt: HostRuntime) -> Result<(), Fail> {
+    fn child_of_cousins(rt: HostRuntime) {
         let mothers = [0, 1, 1, 2, 3, 4];
         let mut memory = [7; 30];
         rows::clear(&mut memory, 2, 24);
         let links = &mut memory[2..26];
-        file_all(&rt, links, &mothers, &[0, 0, 0, 0, 0, 5])?;
+        file_all(&rt, links, &mothers, &[0, 0, 0, 0, 0, 5]);
         check_walk(&rt, links, &mothers, 0, [2, 3, 0, 0, 0, 0]);
         check_walk(&rt, links, &mothers, 1, [4, 0, 0, 0, 0, 0]);
         check_walk(&rt, links, &mothers, 3, [6, 0, 0, 0, 0, 0]);
         check_walk(&rt, links, &mothers, 4, [6, 0, 0, 0, 0, 0]);
         assert_eq!(rt; [memory[1], memory[26]], [7, 7]);
-        Ok(())
     }
 
     #[test]

@@ -6,12 +6,12 @@ use Rattle.std.specs.List.{AllByRecursion}
 use Rattle.rows.specs.Written.{written}
 use Rattle.law.specs.Family.{person, nobody, Family}
 use Rattle.law.specs.Calls.{Call, born, wed, dies, call_number}
-use Rattle.law.specs.Promise.{Memory, left_by}
+use Rattle.law.specs.Promise.{Memory, left_by, all_calls}
 use Rattle.wire.specs.Bytes.{le4, row_bytes, laid_over, laid_length, call_values, call_bytes, read, call_of, is_word}
 use Rattle.wire.specs.declared.Request.{Request}
 use Rattle.wire.specs.declared.Request.TheVariants.{Born, Wed, Parted, Dies, EstateOf}
 use Rattle.wire.proofs.ReadBack.{calls_read_back}
-use Rattle.registry_report.proofs.Replies.{front_written}
+use Rattle.report.proofs.Replies.{front_written}
 use Rattle.service.specs.Desks.{desk, next}
 use Rattle.text.specs.Building.{births, weddings, deaths}
 
@@ -60,68 +60,68 @@ call_long q out size n s =
     omega arith
 
 -- ONE CALL MORE.
-next_call : (m later : Memory) (c : Call) (cs : List Call) → later ≡ next m c → left_by (desk []) later cs ≡ left_by (desk []) m (c ∷ cs)
+next_call : (m later : Memory) (c : Call) (cs : List Call) → later ≡ next all_calls m c → left_by (desk all_calls []) later cs ≡ left_by (desk all_calls []) m (c ∷ cs)
 unfolding left_by
-next_call m later c cs e = ap (λ (u : Memory). left_by (desk []) u cs) e
+next_call m later c cs e = ap (λ (u : Memory). left_by (desk all_calls []) u cs) e
 
 module _ (f : Family) (i : ℕ) (m later P : Memory) where
-  pub births_more : i < length f → later ≡ next m (born (person f i).mother (person f i).father) → left_by (desk []) m (births (drop i f)) ≡ P → left_by (desk []) later (births (drop (i + 1) f)) ≡ P
+  pub births_more : i < length f → later ≡ next all_calls m (born (person f i).mother (person f i).father) → left_by (desk all_calls []) m (births (drop i f)) ≡ P → left_by (desk all_calls []) later (births (drop (i + 1) f)) ≡ P
   births_more h e inv =
       next_call m later (born (person f i).mother (person f i).father) (births (drop (i + 1) f)) e
-      ∙ (ap (λ (g : Family). left_by (desk []) m (births g)) (sym (drop_more f i nobody h)) ∙ inv)
+      ∙ (ap (λ (g : Family). left_by (desk all_calls []) m (births g)) (sym (drop_more f i nobody h)) ∙ inv)
 
   more_is : i + 1 ≡ suc i
   more_is = omega arith
 
-  pub weddings_more : i < length f → i + 1 < (person f i).spouse → later ≡ next m (wed i ((person f i).spouse - 1)) → left_by (desk []) m (weddings i (drop i f)) ≡ P →
-      left_by (desk []) later (weddings (i + 1) (drop (i + 1) f)) ≡ P
+  pub weddings_more : i < length f → i + 1 < (person f i).spouse → later ≡ next all_calls m (wed i ((person f i).spouse - 1)) → left_by (desk all_calls []) m (weddings i (drop i f)) ≡ P →
+      left_by (desk all_calls []) later (weddings (i + 1) (drop (i + 1) f)) ≡ P
   weddings_more h l e inv =
       let rest = weddings (suc i) (drop (i + 1) f) in
       let c = wed i ((person f i).spouse - 1) in
-      ap (λ (k : ℕ). left_by (desk []) later (weddings k (drop (i + 1) f))) more_is
+      ap (λ (k : ℕ). left_by (desk all_calls []) later (weddings k (drop (i + 1) f))) more_is
       ∙ (next_call m later c rest e
-      ∙ (ap (left_by (desk []) m) (sym (cond-true (ltb (suc i) (person f i).spouse) (c ∷ rest) rest (lt-ltb (suc i) (person f i).spouse (omega arith))))
-      ∙ (ap (λ (g : Family). left_by (desk []) m (weddings i g)) (sym (drop_more f i nobody h)) ∙ inv)))
+      ∙ (ap (left_by (desk all_calls []) m) (sym (cond-true (ltb (suc i) (person f i).spouse) (c ∷ rest) rest (lt-ltb (suc i) (person f i).spouse (omega arith))))
+      ∙ (ap (λ (g : Family). left_by (desk all_calls []) m (weddings i g)) (sym (drop_more f i nobody h)) ∙ inv)))
 
-  pub weddings_none : i < length f → (person f i).spouse ≤ i + 1 → later ≡ m → left_by (desk []) m (weddings i (drop i f)) ≡ P →
-      left_by (desk []) later (weddings (i + 1) (drop (i + 1) f)) ≡ P
+  pub weddings_none : i < length f → (person f i).spouse ≤ i + 1 → later ≡ m → left_by (desk all_calls []) m (weddings i (drop i f)) ≡ P →
+      left_by (desk all_calls []) later (weddings (i + 1) (drop (i + 1) f)) ≡ P
   weddings_none h l e inv =
       let rest = weddings (suc i) (drop (i + 1) f) in
       let c = wed i ((person f i).spouse - 1) in
-      (λ k. left_by (desk []) (e k) (weddings (more_is k) (drop (i + 1) f)))
-      ∙ (ap (left_by (desk []) m) (sym (cond-false (ltb (suc i) (person f i).spouse) (c ∷ rest) rest (le-ltb (suc i) (person f i).spouse (omega arith))))
-      ∙ (ap (λ (g : Family). left_by (desk []) m (weddings i g)) (sym (drop_more f i nobody h)) ∙ inv))
+      (λ k. left_by (desk all_calls []) (e k) (weddings (more_is k) (drop (i + 1) f)))
+      ∙ (ap (left_by (desk all_calls []) m) (sym (cond-false (ltb (suc i) (person f i).spouse) (c ∷ rest) rest (le-ltb (suc i) (person f i).spouse (omega arith))))
+      ∙ (ap (λ (g : Family). left_by (desk all_calls []) m (weddings i g)) (sym (drop_more f i nobody h)) ∙ inv))
 
-  pub deaths_more : i < length f → (person f i).lives ≡ false → later ≡ next m (dies i) → left_by (desk []) m (deaths i (drop i f)) ≡ P →
-      left_by (desk []) later (deaths (i + 1) (drop (i + 1) f)) ≡ P
+  pub deaths_more : i < length f → (person f i).lives ≡ false → later ≡ next all_calls m (dies i) → left_by (desk all_calls []) m (deaths i (drop i f)) ≡ P →
+      left_by (desk all_calls []) later (deaths (i + 1) (drop (i + 1) f)) ≡ P
   deaths_more h l e inv =
       let rest = deaths (suc i) (drop (i + 1) f) in
-      ap (λ (k : ℕ). left_by (desk []) later (deaths k (drop (i + 1) f))) more_is
+      ap (λ (k : ℕ). left_by (desk all_calls []) later (deaths k (drop (i + 1) f))) more_is
       ∙ (next_call m later (dies i) rest e
-      ∙ (ap (left_by (desk []) m) (sym (cond-false (person f i).lives rest (dies i ∷ rest) l))
-      ∙ (ap (λ (g : Family). left_by (desk []) m (deaths i g)) (sym (drop_more f i nobody h)) ∙ inv)))
+      ∙ (ap (left_by (desk all_calls []) m) (sym (cond-false (person f i).lives rest (dies i ∷ rest) l))
+      ∙ (ap (λ (g : Family). left_by (desk all_calls []) m (deaths i g)) (sym (drop_more f i nobody h)) ∙ inv)))
 
-  pub deaths_none : i < length f → (person f i).lives ≡ true → later ≡ m → left_by (desk []) m (deaths i (drop i f)) ≡ P → left_by (desk []) later (deaths (i + 1) (drop (i + 1) f)) ≡ P
+  pub deaths_none : i < length f → (person f i).lives ≡ true → later ≡ m → left_by (desk all_calls []) m (deaths i (drop i f)) ≡ P → left_by (desk all_calls []) later (deaths (i + 1) (drop (i + 1) f)) ≡ P
   deaths_none h l e inv =
       let rest = deaths (suc i) (drop (i + 1) f) in
-      (λ k. left_by (desk []) (e k) (deaths (more_is k) (drop (i + 1) f)))
-      ∙ (ap (left_by (desk []) m) (sym (cond-true (person f i).lives rest (dies i ∷ rest) l)) ∙ (ap (λ (g : Family). left_by (desk []) m (deaths i g)) (sym (drop_more f i nobody h)) ∙ inv))
+      (λ k. left_by (desk all_calls []) (e k) (deaths (more_is k) (drop (i + 1) f)))
+      ∙ (ap (left_by (desk all_calls []) m) (sym (cond-true (person f i).lives rest (dies i ∷ rest) l)) ∙ (ap (λ (g : Family). left_by (desk all_calls []) m (deaths i g)) (sym (drop_more f i nobody h)) ∙ inv))
 
 module _ (f : Family) (i : ℕ) (m P : Memory) (h : length f ≤ i) where
-  pub births_all : left_by (desk []) m (births (drop i f)) ≡ P → m ≡ P
+  pub births_all : left_by (desk all_calls []) m (births (drop i f)) ≡ P → m ≡ P
   unfolding left_by
-  births_all inv = sym (ap (λ (g : Family). left_by (desk []) m (births g)) (drop_all i f h)) ∙ inv
+  births_all inv = sym (ap (λ (g : Family). left_by (desk all_calls []) m (births g)) (drop_all i f h)) ∙ inv
 
-  pub weddings_all : left_by (desk []) m (weddings i (drop i f)) ≡ P → m ≡ P
+  pub weddings_all : left_by (desk all_calls []) m (weddings i (drop i f)) ≡ P → m ≡ P
   unfolding left_by
-  weddings_all inv = sym (ap (λ (g : Family). left_by (desk []) m (weddings i g)) (drop_all i f h)) ∙ inv
+  weddings_all inv = sym (ap (λ (g : Family). left_by (desk all_calls []) m (weddings i g)) (drop_all i f h)) ∙ inv
 
-  pub deaths_all : left_by (desk []) m (deaths i (drop i f)) ≡ P → m ≡ P
+  pub deaths_all : left_by (desk all_calls []) m (deaths i (drop i f)) ≡ P → m ≡ P
   unfolding left_by
-  deaths_all inv = sym (ap (λ (g : Family). left_by (desk []) m (deaths i g)) (drop_all i f h)) ∙ inv
+  deaths_all inv = sym (ap (λ (g : Family). left_by (desk all_calls []) m (deaths i g)) (drop_all i f h)) ∙ inv
 
 -- all calls one after the other
-pub left_then : (m : Memory) (cs ds : List Call) → left_by (desk []) m (cs ++ ds) ≡ left_by (desk []) (left_by (desk []) m cs) ds
+pub left_then : (m : Memory) (cs ds : List Call) → left_by (desk all_calls []) m (cs ++ ds) ≡ left_by (desk all_calls []) (left_by (desk all_calls []) m cs) ds
 unfolding left_by
 left_then m [] ds = refl
-left_then m (c ∷ cs) ds = left_then (next m c) cs ds
+left_then m (c ∷ cs) ds = left_then (next all_calls m c) cs ds

@@ -5,10 +5,16 @@ use Rattle.std.proofs.lemmas.List.{append_assoc, append-nil, length-append, take
 use Rattle.std.proofs.lemmas.List.Elements.{filter_more, filter-append}
 use Rattle.std.proofs.ByRecursion.{All-append}
 use Rattle.std.proofs.lemmas.Bool.{cases_eq, cond-true, cond-false}
-use Rattle.law.specs.Family.{Family, Part, person, is_child, children, line_parts}
+use Rattle.law.specs.Family.{Person, Family, Part, person, is_child, children, line_parts}
 use Rattle.law.specs.Calls.{common_multiple}
 use Rattle.theory.specs.Families.{Ranked}
 use Rattle.theory.specs.Living.{alive, lines_below}
+use Rattle.bits.specs.Sets.{no_member}
+use Rattle.children.specs.Links.{link_row}
+use Rattle.shares.specs.Work.{work_of, no_pieces}
+use Rattle.people.specs.Layout.{person_at}
+use Rattle.people.proofs.Layouts.{person_laid}
+use Rattle.living.specs.Places.{Held}
 use Rattle.theory.proofs.Lists.{joined_append}
 use Rattle.theory.proofs.Lines.{below_lives}
 use Rattle.theory.proofs.Living.{parts_lives, parts_dead}
@@ -77,10 +83,21 @@ line_too_large {f} s p b dead large qs rs =
 pub line_standing : {f : Family} {rk : ℕ → ℕ} → Ranked f rk → (p b : ℕ) → (person f p).lives ≡ true → line_parts f (length f) p b ≡ record { who = p; by = b } ∷ []
 line_standing s p b lives = parts_lives s p b lives
 
-pub line_divided :
-    {f : Family} {rk : ℕ → ℕ} → Ranked f rk → (p b each : ℕ) → (person f p).lives ≡ false → each ≡ b * length (filter (alive f) (children f p)) →
-    line_parts f (length f) p b ≡ parts_below f each (children f p)
-line_divided {f} s p b each dead e = parts_dead s p b dead ∙ ap (λ x. parts_below f x (children f p)) (sym e)
+-- what is read of a person in memory, and how the line of one who is dead is divided among the children whose lines live
+module _ {ws : List ℕ} {n : ℕ} {f : Family} {rk : ℕ → ℕ} {ps : List Part} {spare rest : List ℕ} {steps who count : ℕ} (ready : Ready ws n f rk ps spare rest steps who count) (r : Person)
+    (read : r ≡ person_at ws (2 + 4 * who)) where
+  abbrev area : List ℕ
+  area = work_of n ps no_member no_pieces spare
+
+  pub read_lives : (person f who).lives ≡ r.lives
+  read_lives = sym (ap (λ (x : Person). x.lives) (read ∙ person_laid ws n (length f) f (link_row f) (alive f) area rest who ready.words (omega (arith, ready.there, ready.room))))
+
+  pub divided :
+      (by each k : ℕ) → r.lives ≡ false → ((m : ℕ) (g : Family) (s : ℕ → Bool) (work others : List ℕ) → Held ws m g s work others → k ≡ length (filter s (children g who))) → each ≡ by * k →
+      line_parts f (length f) who by ≡ parts_below f each (children f who)
+  divided by each k dead counted e =
+      parts_dead ready.ranked who by (read_lives ∙ dead)
+      ∙ ap (λ x. parts_below f x (children f who)) (sym (e ∙ ap (λ j. by * j) (counted n f (alive f) area rest (ready.words, ready.room))))
 
 -- a child's line stops: so does the whole
 pub stopped_below :

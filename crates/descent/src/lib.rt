@@ -2,21 +2,19 @@
 // The parts are put behind one another in the work area of the register's memory.
 #![tactic(auto)]
 
-ghost use Rattle.std.specs.Prelude.{◌≡◌, ℕ, ◌+◌, ◌*◌, ◌<◌, ◌≤◌, Bool, List, [], ◌∷◌, length, filter, MatchOption};
+ghost use Rattle.std.specs.Prelude.{◌≡◌, ℕ, ◌+◌, ◌*◌, ◌<◌, ◌≤◌, Bool, List, [], ◌∷◌, length, filter, IfSome};
 ghost use Rattle.law.specs.Family.{Family, Part as LawPart, children, line_parts};
 ghost use Rattle.living.specs.Places.{Held};
 ghost use Rattle.people.specs.Layout.{limit_in, count_in, Roomy};
 ghost use Rattle.descent.specs.Going.{with_parts, Gone, Ready};
 
-use shares::Part;
+use shares::{MOST_PARTS, Part};
 
-const MOST_PARTS: u32 = 4096;
-
-// Where the work area begins in memory with this limit: behind the header, two tables of four words for each person, and the bits.
+// Where the work area begins in memory with this limit.
 pub fn work_at(limit: u32) -> usize
     ensures value { result ≡ 130 + 8 * limit }
 {
-    130 + 8 * limit as usize
+    people::work_at(limit)
 }
 
 // Puts a part behind so many others.
@@ -24,6 +22,7 @@ fn put_heir(memory: &mut [u32], who: u32, by: u32, count: u32) -> Option<u32>
     requires room { Roomy memory.old }
     ensures limit { limit_in memory.new ≡ limit_in memory.old }
     ensures count { count_in memory.new ≡ count_in memory.old }
+    ensures within { count ≤ 4096 → IfSome result (λ k. k ≤ 4096) }
     ensures gone { (n : ℕ) (f : Family) (ps : List LawPart) (spare rest : List ℕ) → memory.old ≡ with_parts n f ps spare rest → length ps ≡ count → length ps ≤ 4096
         → Gone n f spare rest ps (record { who = who; by = by } ∷ []) memory.new result }
 {
@@ -35,31 +34,15 @@ fn put_heir(memory: &mut [u32], who: u32, by: u32, count: u32) -> Option<u32>
     Some(count + 1)
 }
 
-// One by so many divided among some more: one by how many that is, if it is below 2 to the 32nd.
-fn divided(by: u32, among: u32) -> Option<u32>
-    ensures cases { MatchOption result (4294967296 ≤ by * among) (λ each. each ≡ by * among) }
-{
-    by.checked_mul(among)
-}
-
 // How many children of somebody have a line that lives.
 pub fn living_children(memory: &[u32], who: u32) -> u32
     requires room { Roomy memory.now }
     requires there { who < limit_in memory.now }
     ensures value { (n : ℕ) (f : Family) (s : ℕ → Bool) (work rest : List ℕ) → Held memory.now n f s work rest → result ≡ length (filter s (children f who)) }
 {
-    let mut count = 0;
-    let mut link = people::first_child(memory, who);
-    for turn in 0..memory[1] {
-        let Some(child) = people::somebody(memory[0], link) else {
-            break;
-        };
-        if living::lives(memory, child) {
-            count += 1;
-        }
-        link = people::next_child(memory, who, child);
-    }
-    count
+    people::Children::of(memory, who)
+        .filter(|child| living::lives(memory, *child))
+        .count() as u32
 }
 
 // The parts of a line that has one by so many, behind so many others: how many there are then. None where there is no room for all, or a number on the way is too large.
@@ -68,6 +51,7 @@ pub fn line(memory: &mut [u32], steps: u32, who: u32, by: u32, count: u32) -> Op
     requires there { who < limit_in memory.old }
     ensures limit { limit_in memory.new ≡ limit_in memory.old }
     ensures count { count_in memory.new ≡ count_in memory.old }
+    ensures within { count ≤ 4096 → IfSome result (λ k. k ≤ 4096) }
     ensures gone { (n : ℕ) (f : Family) (rk : ℕ → ℕ) (ps : List LawPart) (spare rest : List ℕ) → Ready memory.old n f rk ps spare rest steps who count
         → Gone n f spare rest ps (line_parts f (length f) who by) memory.new result }
 {
@@ -77,20 +61,16 @@ pub fn line(memory: &mut [u32], steps: u32, who: u32, by: u32, count: u32) -> Op
     if people::read(memory, who).lives {
         return put_heir(memory, who, by, count);
     }
-    let Some(each) = divided(by, living_children(memory, who)) else {
-        return None;
-    };
+    let each = by.checked_mul(living_children(memory, who))?;
     let mut at = count;
+    // Each turn writes the memory that holds the links, so that no iterator over the children can be lent it.
     let mut link = people::first_child(memory, who);
     for turn in 0..memory[1] {
         let Some(child) = people::somebody(memory[0], link) else {
             break;
         };
         if living::lives(memory, child) {
-            let Some(next) = line(memory, steps - 1, child, each, at) else {
-                return None;
-            };
-            at = next;
+            at = line(memory, steps - 1, child, each, at)?;
         }
         link = people::next_child(memory, who, child);
     }

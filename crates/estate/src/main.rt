@@ -2,10 +2,10 @@
 // cousins and married, so that their children Ida and Jürgen inherit of their great-grandmother Anna by two lines, and Frieda's daughter Lena by one.
 #![tactic(auto)]
 
-use clerk::Refusal;
 use std::alloc::AllocError;
 use std::process::ExitCode;
-use std::{env, fmt, fs, io};
+use std::{env, fmt};
+use text::Fault;
 
 const HELP: &str = "Usage: estate FAMILY NAME
 
@@ -42,53 +42,35 @@ estate prints
 // Why nothing was printed.
 #[derive(Drop)]
 enum Failure {
-    Arguments(io::Error),
+    Console(console::Failure),
     WrongArguments,
-    UnknownOption(String),
-    Unreadable(String, io::Error),
-    Line(usize, &'static str, String),
+    Line(Fault, String),
     NotThere(String),
-    NoMemory,
-    Unprintable(io::Error),
+}
+
+impl From<console::Failure> for Failure {
+    fn from(failure: console::Failure) -> Failure {
+        Failure::Console(failure)
+    }
 }
 
 impl From<AllocError> for Failure {
     fn from(_: AllocError) -> Failure {
-        Failure::NoMemory
+        Failure::Console(console::Failure::NoMemory)
     }
 }
 
 impl fmt::Display for Failure {
     fn fmt<W: fmt::Write>(&self, f: &mut fmt::Formatter<W>) -> fmt::Result {
         match self {
-            Failure::Arguments(error) => write!(f, "arguments: {error}"),
+            Failure::Console(failure) => write!(f, "{failure}"),
             Failure::WrongArguments => write!(
                 f,
                 "a file and a name are asked for; see estate --help"
             ),
-            Failure::UnknownOption(option) => {
-                write!(f, "unknown option {option}; see estate --help")
-            }
-            Failure::Unreadable(name, error) => write!(f, "{name}: {error}"),
-            Failure::Line(line, words, text) => write!(f, "refused 1 at {line}: {words}: {text}"),
+            Failure::Line(fault, text) => write!(f, "{fault}: {text}"),
             Failure::NotThere(name) => write!(f, "nobody is called {name}"),
-            Failure::NoMemory => write!(f, "not enough memory"),
-            Failure::Unprintable(error) => write!(f, "standard output: {error}"),
         }
-    }
-}
-
-fn print(rt: &HostRuntime, text: &str) -> Result<(), Failure> {
-    match rt.print(text) {
-        Ok(()) => Ok(()),
-        Err(error) => Err(Failure::Unprintable(error)),
-    }
-}
-
-fn file_bytes(rt: &HostRuntime, name: String) -> Result<Vec<u8>, Failure> {
-    match fs::read(rt, name.as_str()) {
-        Ok(bytes) => Ok(bytes),
-        Err(error) => Err(Failure::Unreadable(name, error)),
     }
 }
 
@@ -100,23 +82,15 @@ enum Asked {
 }
 
 fn arguments(rt: &HostRuntime) -> Result<Asked, Failure> {
-    let mut words = match env::args(rt) {
-        Ok(words) => words,
-        Err(error) => return Err(Failure::Arguments(error)),
-    };
-    let _ = words.next();
-    let Some(file) = words.next() else {
-        return Err(Failure::WrongArguments);
-    };
+    let mut words = env::args(rt).map_err(console::Failure::Arguments)?.skip(1);
+    let file = words.next().ok_or(Failure::WrongArguments)?;
     if file.as_str() == "--help" {
         return Ok(Asked::Help);
     }
     if file.as_str().starts_with('-') {
-        return Err(Failure::UnknownOption(file));
+        return Err(console::Failure::UnknownOption("estate", file).into());
     }
-    let Some(name) = words.next() else {
-        return Err(Failure::WrongArguments);
-    };
+    let name = words.next().ok_or(Failure::WrongArguments)?;
     if words.next().is_some() {
         return Err(Failure::WrongArguments);
     }
@@ -125,21 +99,22 @@ fn arguments(rt: &HostRuntime) -> Result<Asked, Failure> {
 
 // Prints the lines of an estate.
 fn print_estate(rt: &HostRuntime, file: String, name: String) -> Result<(), Failure> {
-    let bytes = file_bytes(rt, file)?;
-    match clerk::estate(rt.alloc(), bytes.as_slice(), name.as_str())? {
-        Ok(lines) => print(rt, lines.as_str()),
-        Err(Refusal::Line(fault)) => {
+    let bytes = console::file_bytes(rt, file)?;
+    match clerk::estate(rt.alloc(), bytes.as_slice(), name.as_str()) {
+        Ok(lines) => Ok(console::print(rt, lines.as_str())?),
+        Err(clerk::Failure::Line(fault)) => {
             let line = text::line_at(bytes.as_slice(), fault.line);
             let shown = String::from_utf8_lossy(rt.alloc(), line)?;
-            Err(Failure::Line(fault.line, fault.reason.words(), shown))
+            Err(Failure::Line(fault, shown))
         }
-        Err(Refusal::NotThere) => Err(Failure::NotThere(name)),
+        Err(clerk::Failure::NotThere) => Err(Failure::NotThere(name)),
+        Err(clerk::Failure::NoMemory) => Err(console::Failure::NoMemory.into()),
     }
 }
 
 fn run(rt: &HostRuntime) -> Result<(), Failure> {
     match arguments(rt)? {
-        Asked::Help => print(rt, HELP),
+        Asked::Help => Ok(console::print(rt, HELP)?),
         Asked::Estate(file, name) => print_estate(rt, file, name),
     }
 }

@@ -5,7 +5,7 @@ use Rattle.std.proofs.lemmas.List.{append_assoc, append-nil, length-append, leng
 use Rattle.rows.specs.Written.{written}
 use Rattle.std.specs.List.{range_with_len}
 use Rattle.law.specs.Family.{Family, Part}
-use Rattle.rows.proofs.Regions.{region_read, region_write, region_part, region_put}
+use Rattle.rows.proofs.Regions.{region_write, region_part, region_put}
 use Rattle.theory.specs.Living.{alive}
 use Rattle.children.specs.Links.{link_row}
 use Rattle.children.proofs.Links.{links_wide}
@@ -33,29 +33,6 @@ unfolding work_of
 rows_work n ps r spare long =
     let row : r.pieces ≡ map (amounts_in r.pieces) (range_with_len 0 n) = row_by r.pieces (amounts_in r.pieces) (λ w. refl) ∙ ap (λ k. map (amounts_in r.pieces) (range_with_len 0 k)) long in
     λ i. parts_area ps ++ (bit_row 128 r.heirs ++ (row i ++ (r.order ++ (r.counts ++ (r.multiples ++ spare)))))
-
--- a word of the work area
-area_read :
-    (n : ℕ) (f : Family) (area rest : List ℕ) (i : ℕ) → i < length area → get_or (working n f area rest) (130 + 8 * n + i) 0 ≡ get_or area i 0
-area_read n f area rest i h =
-    let around = around_work n (length f) (person_row f) (link_row f) (alive f) rest (persons_wide f) (links_wide f) in
-    ap (λ u. get_or u (130 + 8 * n + i) 0) (around.2 area) ∙ region_read around.0 area rest 0 (130 + 8 * n) i around.1 h
-
--- the part with an index
-pub start_words :
-    {ws : List ℕ} {n : ℕ} {f : Family} {ps : List Part} {r : Rows} {spare rest : List ℕ} → Rowed ws n f ps r spare rest → (i at : ℕ) (none : Part) → i < length ps → at ≡ 130 + 8 * n + 2 * i →
-    (get_or ws at 0 ≡ (get_or ps i none).who) × (get_or ws (at + 1) 0 ≡ (get_or ps i none).by)
-start_words {ws} {n} {f} {ps} {r} {spare} {rest} held i at none h e =
-    let more = r.order ++ (r.counts ++ (r.multiples ++ spare)) in
-    let area = work_of n ps r.heirs (amounts_in r.pieces) more in
-    let words : ws ≡ working n f area rest = held.words ∙ ap (λ a. working n f a rest) (rows_work n ps r spare held.pieces_long) in
-    let few = held.few in
-    let long = length-work n ps r.heirs (amounts_in r.pieces) more few in
-    let part : part_in area i ≡ get_or ps i none = part_read n ps r.heirs (amounts_in r.pieces) more i none h in
-    let f1 : at + 1 ≡ 130 + 8 * n + (2 * i + 1) = omega arith in (
-      (λ j. get_or (words j) (e j) 0) ∙ area_read n f area rest (2 * i) (omega arith) ∙ ap (λ (q : Part). q.who) part,
-      (λ j. get_or (words j) (f1 j) 0) ∙ area_read n f area rest (2 * i + 1) (omega arith) ∙ ap (λ (q : Part). q.by) part,
-    )
 
 -- rows when nobody is listed, as the shares' layer has them
 amounts_none : (n : ℕ) → amounts_in (replicate n 0) ≡ no_pieces
@@ -136,6 +113,16 @@ module _ (n : ℕ) (f : Family) (ps : List Part) (spare rest : List ℕ) where
     put_back t h new is =
         (λ i. put_mid at (length mem - at) ((e ∙ around.2 s g) i) (is i))
         ∙ region_put around.0 (all_behind s g) [] (all_behind t h) at (length mem - at) (around.1 ∙ sym begins) behind_long ∙ sym (around.2 t h)
+
+-- the part with an index
+pub start_read :
+    {ws : List ℕ} {n : ℕ} {f : Family} {ps : List Part} {r : Rows} {spare rest : List ℕ} → Rowed ws n f ps r spare rest → (i at : ℕ) (none : Part) → i < length ps → at ≡ 130 + 8 * n →
+    part_in (take (length ws - at) (drop at ws)) i ≡ get_or ps i none
+start_read {ws} {n} {f} {ps} {r} {spare} {rest} held i at none h begins =
+    let amounts = amounts_in r.pieces in
+    let more = r.order ++ (r.counts ++ (r.multiples ++ spare)) in
+    let words : ws ≡ working n f (work_of n ps r.heirs amounts more) rest = held.words ∙ ap (λ a. working n f a rest) (rows_work n ps r spare held.pieces_long) in
+    ap (λ a. part_in a i) (handed_on n f ps more rest r.heirs amounts ws at words begins) ∙ part_read n ps r.heirs amounts (more ++ rest) i none h
 
 -- parts cleared
 pub parts_gone :

@@ -1,5 +1,5 @@
 -- An estate by the numbers of the passes: by which number it is divided, who the heirs are, and what they have. Assumes nothing.
-use Rattle.std.proofs.Common.{◌≡◌, ℕ, zero, suc, ◌+◌, ◌*◌, ◌<◌, ◌≤◌, Bool, true, false, cond, not, ◌&&◌, eqb, ltb, leb, ◌⊎◌, List, [], ◌∷◌, ◌++◌, length, get_or, replicate, Some, None, sum, sym, refl, ap, ◌∙◌, inl, inr, ⊎_elim, arith}
+use Rattle.std.proofs.Common.{◌≡◌, ℕ, zero, suc, ◌+◌, ◌*◌, ◌<◌, ◌≤◌, Bool, true, false, cond, not, ◌&&◌, eqb, ltb, leb, ◌⊎◌, List, [], ◌∷◌, ◌++◌, length, get_or, replicate, Some, None, Option, sum, sym, refl, ap, ◌∙◌, inl, inr, ⊎_elim, arith}
 use Rattle.std.specs.List.{AllByRecursion}
 use Rattle.std.proofs.lemmas.List.{length-replicate}
 use Rattle.std.proofs.ByRecursion.{All-weaker}
@@ -9,9 +9,10 @@ use Rattle.law.specs.Calls.{common_multiple}
 use Rattle.theory.specs.Families.{Ranked}
 use Rattle.theory.specs.Living.{alive}
 use Rattle.theory.specs.Decedent.{kept_estate}
-use Rattle.theory.proofs.Multiples.{common_multiple_append}
+use Rattle.theory.proofs.Multiples.{common_multiple_append, common_multiple_below}
 use Rattle.bits.specs.Sets.{with_member, no_member}
-use Rattle.shares.specs.Parts.{number_of}
+use Rattle.shares.specs.Parts.{lead_parts, word_number, number_of}
+use Rattle.succession.specs.declared.Beside.{Beside}
 use Rattle.shares.specs.Work.{has_pieces}
 use Rattle.amounts.specs.Passes.{is_in, few, started, starts_count, starts_numbers}
 use Rattle.amounts.specs.Estates.{relatives_times, spouse_lead, estate_starts, estate_counts, estate_multiples}
@@ -38,6 +39,15 @@ few_times lead times x h =
     lt-leb (lead + times * few x) 4096 (omega arith) ∙ sym (lt-leb (lead + times * x) 4096 (omega arith)))
     (λ (l : x ≤ 4096). ap (λ k. leb (lead + times * k) 4096) (few_small x l)) (cases_lt 4096 x)
 
+-- a number that fits a word, within a limit
+limited : (b : Bool) (k : ℕ) → k < 4294967296 → cond b (word_number k) None ≡ cond (b && not (eqb k 0)) (Some k) None
+limited false k h = refl
+limited true k h = rw (lt-ltb k 4294967296 h) (by (eqb k 0))
+  where
+    by : (t : Bool) → cond t None (Some k) ≡ cond (not t) (Some k) None
+    by true = refl
+    by false = refl
+
 -- the number that an estate is divided by
 module _ {f : Family} {rk : ℕ → ℕ} (ranked : Ranked f rk) (d n : ℕ) (room : length f ≤ n) where
   abbrev zeros : List ℕ
@@ -47,18 +57,21 @@ module _ {f : Family} {rk : ℕ → ℕ} (ranked : Ranked f rk) (d n : ℕ) (roo
   long = omega (arith, length-replicate {A = ℕ} n 0)
 
   pub number_right :
-      (lead : List Part) (times parts first multiple : ℕ) → lead ≡ spouse_lead f d → times ≡ relatives_times f d → 0 < times → first ≡ common_multiple lead 1 →
-      parts ≡ few (starts_count (estate_counts f d zeros) (estate_starts f d)) → multiple ≡ common_multiple (starts_numbers (estate_multiples f d zeros) (estate_starts f d)) first →
-      cond (leb (length lead + times * parts) 4096 && not (eqb multiple 0)) (Some multiple) None ≡ number_of (kept_estate f d)
-  number_right lead times parts first multiple l t some is p m =
+      (beside : Beside) (parts : ℕ) (multiple : Option ℕ) → lead_parts beside.lead ≡ spouse_lead f d → beside.times ≡ relatives_times f d → 0 < beside.times →
+      parts ≡ few (starts_count (estate_counts f d zeros) (estate_starts f d)) →
+      multiple ≡ word_number (common_multiple (starts_numbers (estate_multiples f d zeros) (estate_starts f d)) (common_multiple (lead_parts beside.lead) 1)) →
+      cond (leb (length (lead_parts beside.lead) + beside.times * parts) 4096) multiple None ≡ number_of (kept_estate f d)
+  number_right beside parts multiple l t some p m =
+      let lead = lead_parts beside.lead in
       let by = estate_passes ranked d in
       let count = starts_count (estate_counts f d zeros) (estate_starts f d) in
       let numbers = starts_numbers (estate_multiples f d zeros) (estate_starts f d) in
-      let many : leb (length lead + times * parts) 4096 ≡ leb (length (kept_estate f d)) 4096 =
-      ap (λ k. leb (length lead + times * k) 4096) p ∙ few_times (length lead) times count some ∙ (λ i. leb (length (l i) + t i * count) 4096) ∙ sym (by.parts zeros long) in
-      let number : multiple ≡ common_multiple (kept_estate f d) 1 =
-      m ∙ ap (common_multiple numbers) is ∙ sym (common_multiple_append lead numbers 1) ∙ ap (λ ps. common_multiple (ps ++ numbers) 1) l ∙ sym (by.number zeros long) in
-      λ i. cond (many i && not (eqb (number i) 0)) (Some (number i)) None
+      let row = kept_estate f d in
+      let many : leb (length lead + beside.times * parts) 4096 ≡ leb (length row) 4096 =
+      ap (λ k. leb (length lead + beside.times * k) 4096) p ∙ few_times (length lead) beside.times count some ∙ (λ i. leb (length (l i) + t i * count) 4096) ∙ sym (by.parts zeros long) in
+      let number : common_multiple numbers (common_multiple lead 1) ≡ common_multiple row 1 =
+      sym (common_multiple_append lead numbers 1) ∙ ap (λ ps. common_multiple (ps ++ numbers) 1) l ∙ sym (by.number zeros long) in
+      (λ i. cond (many i) ((m ∙ ap word_number number) i) None) ∙ limited (leb (length row) 4096) (common_multiple row 1) (common_multiple_below row 1 (omega arith))
 
   -- the lines that it begins with are of persons within the limit
   pub starts_within : AllByRecursion (λ (s : Part). s.who < n) (estate_starts f d)

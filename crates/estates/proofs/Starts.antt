@@ -1,19 +1,21 @@
 -- Lines to begin with, one by one: listed, measured, and given their pieces. Assumes nothing.
-use Rattle.std.proofs.Common.{◌≡◌, ℕ, ◌+◌, ◌*◌, ◌/◌, ◌<◌, ◌≤◌, List, [], ◌∷◌, map, length, get_or, take, drop, set, sum, sym, refl, ap, ◌∙◌, arith}
+use Rattle.std.proofs.Common.{◌≡◌, ℕ, ◌+◌, ◌*◌, ◌/◌, ◌<◌, ◌≤◌, List, [], ◌∷◌, map, length, get_or, take, drop, set, sum, ltb, Option, unwrap_or, sym, refl, ap, ◌∙◌, arith}
 use Rattle.std.specs.List.{AllByRecursion}
 use Rattle.std.proofs.lemmas.List.{take_more, drop_more, drop_all, map-append, get_or-set_same, length-set}
 use Rattle.std.proofs.ByRecursion.{All-weaker, All-drop}
 use Rattle.std.proofs.lemmas.List.Sums.{sum_by_more}
+use Rattle.std.proofs.lemmas.Bool.{cond-true, lt-ltb}
 use Rattle.law.specs.Family.{Family, Part}
 use Rattle.law.specs.Calls.{common_multiple}
 use Rattle.theory.specs.Families.{Ranked}
 use Rattle.theory.specs.Multiples.{lcm}
-use Rattle.theory.proofs.Multiples.{common_multiple_append}
+use Rattle.shares.specs.Parts.{word_number}
+use Rattle.theory.proofs.Multiples.{common_multiple_append, common_multiple_below}
 use Rattle.amounts.specs.Statements.{Listing}
 use Rattle.amounts.proofs.Listing.{listing}
 use Rattle.amounts.specs.Passes.{InDescentOrder, few, word_or_zero, started, starts_count, starts_numbers}
 use Rattle.amounts.proofs.Downward.{sum_started, one_most}
-use Rattle.passes.proofs.Steps.{few_more, common_one}
+use Rattle.passes.proofs.Steps.{number_back, number_again, few_more, common_one}
 
 -- a part that stands for none
 abbrev pub no_part : Part
@@ -37,14 +39,19 @@ parts_start row ss i none s parts more all h e a b t =
     ∙ ap few (sym (sum_by_more (λ (q : Part). get_or row q.who 0) ss i none h))
 
 pub number_start :
-    (row : List ℕ) (ss : List Part) (first i : ℕ) (none s : Part) (number more all : ℕ) → i < length ss → s ≡ get_or ss i none → number ≡ common_multiple (starts_numbers row (take i ss)) first →
-    more ≡ word_or_zero (s.by * get_or row s.who 0) → all ≡ word_or_zero (lcm number more) → all ≡ common_multiple (starts_numbers row (take (i + 1) ss)) first
-number_start row ss first i none s number more all h e a b t =
+    (row : List ℕ) (ss : List Part) (first i : ℕ) (none s : Part) (number more all : Option ℕ) → first < 4294967296 → i < length ss → s ≡ get_or ss i none →
+    number ≡ word_number (common_multiple (starts_numbers row (take i ss)) first) → unwrap_or more 0 ≡ word_or_zero (s.by * get_or row s.who 0) →
+    all ≡ word_number (lcm (unwrap_or number 0) (unwrap_or more 0)) → all ≡ word_number (common_multiple (starts_numbers row (take (i + 1) ss)) first)
+number_start row ss first i none s number more all small h e a b t =
     let numbered : Part → Part = λ q. record { who = q.who; by = word_or_zero (q.by * get_or row q.who 0) } in
     let q : Part = numbered (get_or ss i none) in
-    t ∙ (λ j. word_or_zero (lcm (a j) ((b ∙ ap (λ (x : Part). word_or_zero (x.by * get_or row x.who 0)) e) j))) ∙ sym (common_one q (common_multiple (starts_numbers row (take i ss)) first))
-    ∙ sym (common_multiple_append (starts_numbers row (take i ss)) (q ∷ []) first)
-    ∙ ap (λ xs. common_multiple xs first) (sym (ap (map numbered) (take_more ss i none h) ∙ map-append numbered (take i ss) (get_or ss i none ∷ [])))
+    let was = common_multiple (starts_numbers row (take i ss)) first in
+    let before : unwrap_or number 0 ≡ was =
+    ap (λ m. unwrap_or m 0) a ∙ number_back was ∙ cond-true (ltb was 4294967296) was 0 (lt-ltb was 4294967296 (common_multiple_below (starts_numbers row (take i ss)) first small)) in
+    let next : word_or_zero (lcm was q.by) ≡ common_multiple (starts_numbers row (take (i + 1) ss)) first =
+    sym (common_one q was) ∙ sym (common_multiple_append (starts_numbers row (take i ss)) (q ∷ []) first)
+    ∙ ap (λ xs. common_multiple xs first) (sym (ap (map numbered) (take_more ss i none h) ∙ map-append numbered (take i ss) (get_or ss i none ∷ []))) in
+    t ∙ (λ j. word_number (lcm (before j) ((b ∙ ap (λ (x : Part). word_or_zero (x.by * get_or row x.who 0)) e) j))) ∙ sym (number_again (lcm was q.by)) ∙ ap word_number next
 
 -- one line more is given its pieces
 pub started_turn :

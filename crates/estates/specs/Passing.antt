@@ -16,7 +16,7 @@ use Rattle.amounts.specs.Passes.{listed}
 use Rattle.amounts.specs.Lines.{divided_among, starts_persons}
 use Rattle.amounts.specs.Estates.{relatives_times, spouse_lead, estate_starts, estate_listing, estate_amounts}
 use Rattle.shares.specs.Parts.{lead_parts, dividable, number_of}
-use Rattle.shares.specs.declared.Part.{Part as PartStruct}
+use Rattle.succession.specs.declared.Beside.{Beside}
 use Rattle.passes.specs.Rows.{Rowed, with_pieces}
 use Rattle.passes.specs.Listings.{listed_rows}
 
@@ -46,14 +46,14 @@ pieces_by n f d None = replicate n 0
 pieces_by n f d (Some number) = estate_amounts f d number (replicate n 0)
 
 -- What is asked to divide the estate of d among the lines that it begins with: all their persons are listed, and what the spouse has is known.
-pub record ToDivide (ws : List ℕ) (n : ℕ) (f : Family) (rk : ℕ → ℕ) (d : ℕ) (spare rest : List ℕ) (lead : Option PartStruct) (times count persons : ℕ) : Type 0 where
+pub record ToDivide (ws : List ℕ) (n : ℕ) (f : Family) (rk : ℕ → ℕ) (d : ℕ) (spare rest : List ℕ) (beside : Beside) (count persons : ℕ) : Type 0 where
   pub rows : Rowed ws n f (estate_starts f d) (listed_rows n f (estate_listing f d)) spare rest
   pub ranked : Ranked f rk
   pub many : length (estate_starts f d) ≡ count
   pub all : length (estate_listing f d) ≡ persons
-  pub spouse : lead_parts lead ≡ spouse_lead f d
-  pub repeats : times ≡ relatives_times f d
-  pub some : 0 < times
+  pub spouse : lead_parts beside.lead ≡ spouse_lead f d
+  pub repeats : beside.times ≡ relatives_times f d
+  pub some : 0 < beside.times
 
 -- The estate of d was divided among these lines, by the least number that all parts divide; or it is beyond the limits, and nobody has pieces.
 pub record Divided (n : ℕ) (f : Family) (d : ℕ) (spare rest later : List ℕ) (r : Option ℕ) : Type 0 where
@@ -65,15 +65,15 @@ abbrev pub amounts_by : ℕ → Family → ℕ → Option ℕ → ℕ → ℕ
 amounts_by n f d r w = slice_index (pieces_by n f d r) w
 
 -- What is asked to divide the estate of d: the lines that it begins with lie in memory as parts, and what the spouse has is known.
-pub record ToSettle (ws : List ℕ) (n : ℕ) (f : Family) (rk : ℕ → ℕ) (d : ℕ) (rest : List ℕ) (lead : Option PartStruct) (times count : ℕ) : Type 0 where
+pub record ToSettle (ws : List ℕ) (n : ℕ) (f : Family) (rk : ℕ → ℕ) (d : ℕ) (rest : List ℕ) (beside : Beside) (count : ℕ) : Type 0 where
   pub words : ws ≡ with_parts n f (estate_starts f d) (spare_zeros n) rest
   pub room : length f ≤ n
   pub few : length (estate_starts f d) ≤ 4096
   pub ranked : Ranked f rk
   pub many : length (estate_starts f d) ≡ count
-  pub spouse : lead_parts lead ≡ spouse_lead f d
-  pub repeats : times ≡ relatives_times f d
-  pub some : 0 < times
+  pub spouse : lead_parts beside.lead ≡ spouse_lead f d
+  pub repeats : beside.times ≡ relatives_times f d
+  pub some : 0 < beside.times
 
 -- The estate of d was divided among the lines that it begins with: everybody has their pieces, and the heirs are those who have any.
 pub record EstateDivided (n : ℕ) (f : Family) (d : ℕ) (rest later : List ℕ) (r : Option ℕ) : Type 0 where

@@ -5,7 +5,7 @@ use Rattle.std.proofs.lemmas.Int.{ints, to_z-of_z}
 use Rattle.std.proofs.lemmas.Bool.{eq-eqb, ne_eqb, cond-true, cond-false}
 use Rattle.law.specs.Family.{Family}
 use Rattle.law.specs.Calls.{Call, born, wed, parted, dies, estate_of, unreadable, Answer, refused, Limits, refusal, refusal_of, call_number, place, after, changed}
-use Rattle.law.specs.Promise.{Memory}
+use Rattle.law.specs.Promise.{Memory, all_calls}
 use Rattle.rows.specs.Written.{written}
 use Rattle.wire.specs.Bytes.{read, answer_bytes}
 use Rattle.people.specs.Layout.{limit_in, family_in, rest_in, image, Sound}
@@ -15,7 +15,7 @@ use Rattle.service.specs.Refusals.{refusal_number, refusal_place}
 use Rattle.service.specs.Service.{Replied}
 use Rattle.service.specs.declared.refusal.Refusal.{Refusal}
 use Rattle.service.specs.declared.refusal.Refusal.TheVariants.{Unreadable, NotTaken, TooManyPersons, TooSmall, NotThere, NotAllowed, BeyondLimit}
-use Rattle.registry.proofs.Fits.{says_fits}
+use Rattle.register.proofs.Fits.{says_fits}
 use Rattle.exports.specs.Results.{signed_refusal, signed_answer, bytes_with, Ready, Called}
 
 -- a signed value and its bits
@@ -38,14 +38,14 @@ taken_told l f (dies a) lent e = (refl, refl)
 taken_told l f (estate_of a) lent e = (refl, refl)
 taken_told l f (unreadable k) lent e = absurd (omega arith)
 
-says_told : (ws : List ℕ) (c : Call) (lent : List ℕ) → refusal (limits (limit_in ws)) (family_in ws) c ≡ 0 → Told (says (state ws) c) lent
+says_told : (ws : List ℕ) (c : Call) (lent : List ℕ) → refusal (limits (limit_in ws)) (family_in ws) c ≡ 0 → Told (says all_calls (state ws) c) lent
 says_told ws c lent e =
     let l = limits (limit_in ws) in
     let f = family_in ws in
     subst (λ a. Told a lent) (sym (cond-true (eqb (refusal l f c) 0) (answer_taken f c) (refused (refusal l f c) (place c)) (eq-eqb (refusal l f c) 0 e))) (taken_told l f c lent e)
 
 -- a call that is turned away leaves the words
-words_kept : (ws later : List ℕ) (c : Call) → Sound ws → state later ≡ next (state ws) c → 0 < refusal (limits (limit_in ws)) (family_in ws) c → later ≡ ws
+words_kept : (ws later : List ℕ) (c : Call) → Sound ws → state later ≡ next all_calls (state ws) c → 0 < refusal (limits (limit_in ws)) (family_in ws) c → later ≡ ws
 words_kept ws later c ok left away =
     let l = limits (limit_in ws) in
     let f = family_in ws in
@@ -65,13 +65,13 @@ module _ (ws later row lent bytes : List ℕ) (ready : Ready ws (length lent)) w
   ready_again : Sound later → limit_in later ≡ limit_in ws → Ready later (length lent)
   ready_again ok e = (ok, subst (λ n. bytes_asked n ≤ length lent) (sym e) ready.1)
 
-  pub short_answer : (k : ℕ) → Replied ws later (read row) lent bytes (Ok k) → (k ≤ length lent) × (k ≤ 2147483647)
+  pub short_answer : (k : ℕ) → Replied all_calls ws later (read row) lent bytes (Ok k) → (k ≤ length lent) × (k ≤ 2147483647)
   short_answer k r =
-      let fit = (says_fits ws row ready.0).room in
+      let fit = (says_fits all_calls ws row ready.0).room in
       let most = ready.0.1.2 in
       (omega (arith, r.said.2, ready.1), omega (arith, r.said.2))
 
-  pub called_taken : (k : ℕ) (v : ℤ) → Replied ws later (read row) lent bytes (Ok k) → v ≡ pos k → Called ws later (read row) lent bytes v
+  pub called_taken : (k : ℕ) (v : ℤ) → Replied all_calls ws later (read row) lent bytes (Ok k) → v ≡ pos k → Called ws later (read row) lent bytes v
   called_taken k v r e =
       let told = says_told ws (read row) lent r.said.0 in
       record {
@@ -83,7 +83,7 @@ module _ (ws later row lent bytes : List ℕ) (ready : Ready ws (length lent)) w
       }
 
   pub called_refused :
-      (e : Refusal) (v : ℤ) → Replied ws later (read row) lent bytes (Err e) → v ≡ signed_refusal (refusal_number e) (refusal_place e) → Called ws later (read row) lent bytes v
+      (e : Refusal) (v : ℤ) → Replied all_calls ws later (read row) lent bytes (Err e) → v ≡ signed_refusal (refusal_number e) (refusal_place e) → Called ws later (read row) lent bytes v
   called_refused e v r is =
       record {
         left = r.left;

@@ -1,7 +1,7 @@
 -- What the exported functions give and leave. Assumes nothing: these are definitions.
 use Rattle.std.specs.Prelude.{◌≡◌, ℕ, ◌+◌, ◌*◌, ◌<◌, ◌≤◌, List, length, ℤ, pos, neg_ℤ, Ok, Err, Result}
 use Rattle.law.specs.Calls.{Call, Answer, refused, number, shares, refusal}
-use Rattle.law.specs.Promise.{all_right}
+use Rattle.law.specs.Promise.{all_right, all_calls}
 use Rattle.rows.specs.Written.{written}
 use Rattle.wire.specs.Bytes.{answer_bytes}
 use Rattle.people.specs.Layout.{limit_in, count_in, family_in, Sound}
@@ -35,9 +35,9 @@ Ready ws bytes = Sound ws × (bytes_asked (limit_in ws) ≤ bytes)
 
 -- A call on such words: what it leaves and says is the desk's, a refusal changes nothing, and the words are a register's again.
 pub record Called (before later : List ℕ) (c : Call) (lent bytes : List ℕ) (r : ℤ) : Type 0 where
-  pub left : state later ≡ next (state before) c
-  pub value : r ≡ signed_answer (says (state before) c)
-  pub said : bytes ≡ bytes_with (says (state before) c) lent
+  pub left : state later ≡ next all_calls (state before) c
+  pub value : r ≡ signed_answer (says all_calls (state before) c)
+  pub said : bytes ≡ bytes_with (says all_calls (state before) c) lent
   pub kept : 0 < refusal (limits (limit_in before)) (family_in before) c → later ≡ before
   pub ready : Ready later (length lent)
 
@@ -54,4 +54,4 @@ pub record Checked (ws : List ℕ) (bytes : ℕ) (r : ℤ) : Type 0 where
   pub exact : (k : ℕ) → r ≡ pos k → Ready ws bytes
   pub no_register : (Sound ws → ⊥) → r ≡ signed_refusal 7 0
   pub too_small : Sound ws → bytes < bytes_asked (limit_in ws) → r ≡ signed_refusal 3 1
-  pub promised : (k : ℕ) → r ≡ pos k → (rest : List ℕ) (cs : List Call) → all_right (desk rest) (limits (limit_in ws)) (state ws) (family_in ws) cs
+  pub promised : (k : ℕ) → r ≡ pos k → (rest : List ℕ) (cs : List Call) → all_right (desk all_calls rest) (limits (limit_in ws)) (state ws) (family_in ws) cs

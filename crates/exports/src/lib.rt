@@ -10,8 +10,9 @@ ghost use Rattle.service.specs.Refusals.{refusal_number, refusal_place};
 ghost use Rattle.service.specs.Service.{opens, left_by};
 ghost use Rattle.exports.specs.Results.{signed_refusal, signed_opening, Ready, Called, Untouched, Checked};
 
-use service::Method;
+use service::method::{Method, Parts, Passes};
 use service::refusal::Refusal;
+use service::stage::AllCalls;
 
 // The refusal of words that are no register's; it comes from these functions only.
 const NO_REGISTER: i64 = -0x7_0000_0000;
@@ -64,7 +65,7 @@ pub extern "C" fn heirs_open(memory: &mut [u32], answer: &mut [u8], limit: u32) 
 }
 
 // Answers a row of bytes, and works out estates by this method.
-fn answer_row(memory: &mut [u32], row: &[u8], answer: &mut [u8], method: Method) -> i64
+fn answer_row<M: Method>(memory: &mut [u32], row: &[u8], answer: &mut [u8]) -> i64
     ensures called { Ready memory.old (length answer.old) → Called memory.old memory.new (read row.now) answer.old answer.new result }
     ensures within { (k : ℕ) → result ≡ pos k → k ≤ length answer.new }
     ensures unfit { (Roomy memory.old → ⊥) → Untouched memory.old memory.new answer.old answer.new result 7 0 }
@@ -76,7 +77,7 @@ fn answer_row(memory: &mut [u32], row: &[u8], answer: &mut [u8], method: Method)
     if answer.len() < service::bytes_asked(memory[0]) {
         return TOO_SMALL;
     }
-    match service::respond(memory, answer, row, method) {
+    match service::respond::<AllCalls, M>(memory, answer, row) {
         Ok(long) => signed_length(long, answer.len()),
         Err(refusal) => signed_by(refusal),
     }
@@ -91,7 +92,7 @@ pub extern "C" fn heirs_call(memory: &mut [u32], row: &[u8], answer: &mut [u8]) 
     ensures unfit { (Roomy memory.old → ⊥) → Untouched memory.old memory.new answer.old answer.new result 7 0 }
     ensures small { Roomy memory.old → length answer.old < bytes_asked (limit_in memory.old) → Untouched memory.old memory.new answer.old answer.new result 3 1 }
 {
-    answer_row(memory, row, answer, Method::Passes)
+    answer_row::<Passes>(memory, row, answer)
 }
 
 // The same, with estates worked out part by part down every way: for comparison, since it can take many times as long.
@@ -102,7 +103,7 @@ pub extern "C" fn heirs_call_by_parts(memory: &mut [u32], row: &[u8], answer: &m
     ensures unfit { (Roomy memory.old → ⊥) → Untouched memory.old memory.new answer.old answer.new result 7 0 }
     ensures small { Roomy memory.old → length answer.old < bytes_asked (limit_in memory.old) → Untouched memory.old memory.new answer.old answer.new result 3 1 }
 {
-    answer_row(memory, row, answer, Method::Parts)
+    answer_row::<Parts>(memory, row, answer)
 }
 
 // Whether words hold a register, and the bytes suffice for its answers: how many persons there are, or a refusal. Nothing is written.

@@ -10,42 +10,20 @@ ghost use Rattle.living.specs.Marks.{supported};
 ghost use Rattle.living.specs.Places.{Held};
 ghost use Rattle.inspection.specs.Words.{row_fits, RowsFit, Zeros, link_fits, LinksFit, TablesFit, Marked};
 
-use people::Person;
-
-// How many persons a register may have room for, and how many words it asks for: for each person and more.
-const MOST_PERSONS: u32 = 4096;
-
-const WORDS_EACH: usize = 16;
-
-const WORDS_MORE: usize = 24576;
-
-// A person's links: the first child, the last, and the next child of the mother and of the father.
-#[derive(Clone, Copy)]
-struct Links {
-    first: u32,
-    last: u32,
-    of_mother: u32,
-    of_father: u32,
-}
+use children::ROW;
+use people::{
+    MOST_PERSONS, Person, link_to, links_at, marks_at, parents_fit, row_at, words_asked, work_at,
+};
 
 // Whether the header fits the words: what a call needs to be safe.
 pub fn fits(memory: &[u32]) -> bool
     ensures yes { result ≡ true → Roomy memory.now }
     ensures no { Roomy memory.now → result ≡ true }
 {
-    if memory.len() < WORDS_MORE {
+    let [limit, count, ..] = *memory else {
         return false;
-    }
-    if memory[0] > MOST_PERSONS || memory[1] > memory[0] {
-        return false;
-    }
-    memory.len() >= WORDS_MORE + WORDS_EACH * memory[0] as usize
-}
-
-fn parents_fit(who: u32, mother: u32, father: u32) -> bool
-    ensures value { result ≡ parents_fit who mother father }
-{
-    mother <= who && (father <= who && (mother == 0 || mother != father))
+    };
+    limit <= MOST_PERSONS && count <= limit && words_asked(limit) <= memory.len()
 }
 
 fn spouse_fits(memory: &[u32], who: u32, spouse: u32) -> bool
@@ -53,13 +31,13 @@ fn spouse_fits(memory: &[u32], who: u32, spouse: u32) -> bool
     requires number { who < 4294967295 }
     ensures value { result ≡ spouse_fits (length (family_in memory.now)) who spouse (person (family_in memory.now) (spouse - 1)).spouse }
 {
-    if spouse == 0 {
+    let Some(number) = spouse.checked_sub(1) else {
         return true;
-    }
-    let Some(other) = people::find(memory, spouse - 1) else {
+    };
+    let Some(other) = people::find(memory, number) else {
         return false;
     };
-    spouse - 1 != who && other.spouse == who + 1
+    number != who && other.spouse == who + 1
 }
 
 // Whether a person's words are such as a register's can be.
@@ -68,10 +46,8 @@ fn row_fits(memory: &[u32], who: u32) -> bool
     requires there { who < count_in memory.now }
     ensures value { result ≡ row_fits memory.now who }
 {
-    let Some(someone) = people::find(memory, who) else {
-        return false;
-    };
-    memory[2 + 4 * who as usize + 2] <= 1
+    let someone = people::read(memory, who);
+    memory[row_at(who) + 2] <= 1
         && (parents_fit(who, someone.mother, someone.father)
             && spouse_fits(memory, who, someone.spouse))
 }
@@ -81,25 +57,16 @@ fn rows_fit(memory: &[u32]) -> bool
     ensures yes { result ≡ true → RowsFit memory.now }
     ensures no { RowsFit memory.now → result ≡ true }
 {
-    for who in 0..memory[1] {
-        if !row_fits(memory, who) {
-            return false;
-        }
-    }
-    true
+    (0..memory[1]).all(|who| row_fits(memory, who))
 }
 
 fn all_zero(memory: &[u32], from: usize, end: usize) -> bool
+    requires order { from ≤ end }
     requires room { end ≤ length memory.now }
     ensures yes { result ≡ true → Zeros memory.now from end }
     ensures no { Zeros memory.now from end → result ≡ true }
 {
-    for i in from..end {
-        if memory[i] != 0 {
-            return false;
-        }
-    }
-    true
+    memory[from..end].iter().all(|word| *word == 0)
 }
 
 fn has_parent(someone: Person, parent: u32) -> bool
@@ -124,20 +91,8 @@ fn child_from(memory: &[u32], parent: u32, from: u32) -> u32
     requires number { parent < 4294967295 }
     ensures value { result ≡ first_of (children_in (family_in memory.now) parent (count_in memory.now - from) from) }
 {
-    for child in from..memory[1] {
-        if is_child(memory, parent, child) {
-            return child + 1;
-        }
-    }
-    0
-}
-
-// The link to a child if it is one, else the link so far.
-fn link_or(is_child: bool, child: u32, so_far: u32) -> u32
-    requires number { child < 4294967295 }
-    ensures value { result ≡ cond is_child (child + 1) so_far }
-{
-    if is_child { child + 1 } else { so_far }
+    let first = (from..memory[1]).find(|child| is_child(memory, parent, *child));
+    link_to(first)
 }
 
 // The link to the last child of a parent.
@@ -146,11 +101,8 @@ fn last_child(memory: &[u32], parent: u32) -> u32
     requires number { parent < 4294967295 }
     ensures value { result ≡ last_of (children (family_in memory.now) parent) }
 {
-    let mut last = 0;
-    for child in 0..memory[1] {
-        last = link_or(is_child(memory, parent, child), child, last);
-    }
-    last
+    let last = (0..memory[1]).rfind(|child| is_child(memory, parent, *child));
+    link_to(last)
 }
 
 // The link to the child of a parent, who is given as 0 or one more than a number, behind one of their children.
@@ -159,20 +111,10 @@ fn child_behind(memory: &[u32], parent: u32, child: u32) -> u32
     requires there { child < count_in memory.now }
     ensures value { ((person (family_in memory.now) child).mother ≡ parent) ⊎ ((person (family_in memory.now) child).father ≡ parent) → result ≡ behind (family_in memory.now) parent child }
 {
-    if parent == 0 {
+    let Some(number) = parent.checked_sub(1) else {
         return 0;
-    }
-    child_from(memory, parent - 1, child + 1)
-}
-
-// Whether these links stand at a place.
-fn are_links(memory: &[u32], at: usize, links: Links) -> bool
-    requires room { at + 4 ≤ length memory.now }
-    ensures value { result ≡ ((slice_index memory.now at == links.first && slice_index memory.now (at + 1) == links.last)
-        && (slice_index memory.now (at + 2) == links.of_mother && slice_index memory.now (at + 3) == links.of_father)) }
-{
-    (memory[at] == links.first && memory[at + 1] == links.last)
-        && (memory[at + 2] == links.of_mother && memory[at + 3] == links.of_father)
+    };
+    child_from(memory, number, child + 1)
 }
 
 // Whether a person's links are right.
@@ -181,15 +123,15 @@ fn link_fits(memory: &[u32], who: u32) -> bool
     requires there { who < count_in memory.now }
     ensures value { result ≡ link_fits memory.now who }
 {
-    let at = 2 + 4 * memory[0] as usize + 4 * who as usize;
+    let at = links_at(memory[0]) + ROW * who as usize;
     let someone = people::read(memory, who);
-    let links = Links {
-        first: child_from(memory, who, 0),
-        last: last_child(memory, who),
-        of_mother: child_behind(memory, someone.mother, who),
-        of_father: child_behind(memory, someone.father, who),
-    };
-    are_links(memory, at, links)
+    memory[at..at + ROW]
+        == [
+            child_from(memory, who, 0),
+            last_child(memory, who),
+            child_behind(memory, someone.mother, who),
+            child_behind(memory, someone.father, who),
+        ]
 }
 
 fn links_fit(memory: &[u32]) -> bool
@@ -197,34 +139,7 @@ fn links_fit(memory: &[u32]) -> bool
     ensures yes { result ≡ true → LinksFit memory.now }
     ensures no { LinksFit memory.now → result ≡ true }
 {
-    for who in 0..memory[1] {
-        if !link_fits(memory, who) {
-            return false;
-        }
-    }
-    true
-}
-
-// Whether somebody lives, or has a child in the set.
-fn is_supported(memory: &[u32], who: u32) -> bool
-    requires room { Roomy memory.now }
-    requires there { who < limit_in memory.now }
-    ensures value { (n : ℕ) (f : Family) (s : ℕ → Bool) (work rest : List ℕ) → Held memory.now n f s work rest → result ≡ supported f s who }
-{
-    if people::read(memory, who).lives {
-        return true;
-    }
-    let mut link = people::first_child(memory, who);
-    for turn in 0..memory[1] {
-        let Some(child) = people::somebody(memory[0], link) else {
-            break;
-        };
-        if living::lives(memory, child) {
-            return true;
-        }
-        link = people::next_child(memory, who, child);
-    }
-    false
+    (0..memory[1]).all(|who| link_fits(memory, who))
 }
 
 // Whether somebody is to be in the set.
@@ -232,14 +147,17 @@ fn is_marked(memory: &[u32], who: u32) -> bool
     requires room { Roomy memory.now }
     ensures value { (n : ℕ) (f : Family) (s : ℕ → Bool) (work rest : List ℕ) → Held memory.now n f s work rest → result ≡ (nat_lt who (length f) && supported f s who) }
 {
-    who < memory[1] && is_supported(memory, who)
+    who < memory[1] && living::is_supported(memory, who)
 }
 
-fn same(one: bool, other: bool) -> bool
-    ensures yes { result ≡ true → one ≡ other }
-    ensures no { one ≡ other → result ≡ true }
+// Whether somebody is in the set exactly if they are to be.
+fn mark_fits(memory: &[u32], who: u32) -> bool
+    requires room { Roomy memory.now }
+    requires number { who < 4096 }
+    ensures yes { (n : ℕ) (f : Family) (s : ℕ → Bool) (work rest : List ℕ) → Held memory.now n f s work rest → result ≡ true → s who ≡ (nat_lt who (length f) && supported f s who) }
+    ensures no { (n : ℕ) (f : Family) (s : ℕ → Bool) (work rest : List ℕ) → Held memory.now n f s work rest → s who ≡ (nat_lt who (length f) && supported f s who) → result ≡ true }
 {
-    one == other
+    bits::contains(memory, marks_at(memory[0]), who) == is_marked(memory, who)
 }
 
 // Whether all are in the set who are to be, and nobody else.
@@ -248,13 +166,7 @@ fn marks_fit(memory: &[u32]) -> bool
     ensures yes { (n : ℕ) (f : Family) (s : ℕ → Bool) (work rest : List ℕ) → Held memory.now n f s work rest → result ≡ true → Marked f s }
     ensures no { (n : ℕ) (f : Family) (s : ℕ → Bool) (work rest : List ℕ) → Held memory.now n f s work rest → Marked f s → result ≡ true }
 {
-    let at = 2 + 8 * memory[0] as usize;
-    for who in 0..MOST_PERSONS {
-        if !same(bits::contains(memory, at, who), is_marked(memory, who)) {
-            return false;
-        }
-    }
-    true
+    (0..MOST_PERSONS).all(|who| mark_fits(memory, who))
 }
 
 // Whether the words of persons, those of links and the words to work in are a register's.
@@ -263,23 +175,14 @@ fn tables_fit(memory: &[u32]) -> bool
     ensures yes { result ≡ true → TablesFit memory.now }
     ensures no { TablesFit memory.now → result ≡ true }
 {
-    let limit = memory[0] as usize;
-    let count = memory[1] as usize;
-    let links = 2 + 4 * limit;
-    let marks = links + 4 * limit;
-    if !rows_fit(memory) {
-        return false;
-    }
-    if !all_zero(memory, 2 + 4 * count, links) {
-        return false;
-    }
-    if !links_fit(memory) {
-        return false;
-    }
-    if !all_zero(memory, links + 4 * count, marks) {
-        return false;
-    }
-    all_zero(memory, marks + 128, WORDS_MORE + WORDS_EACH * limit)
+    let limit = memory[0];
+    let count = memory[1];
+    let links = links_at(limit);
+    rows_fit(memory)
+        && all_zero(memory, row_at(count), links)
+        && links_fit(memory)
+        && all_zero(memory, links + ROW * count as usize, marks_at(limit))
+        && all_zero(memory, work_at(limit), words_asked(limit))
 }
 
 // Whether words are those of a register: yes exactly to the memory of a valid family.
@@ -287,11 +190,5 @@ pub fn is_sound(memory: &[u32]) -> bool
     ensures yes { result ≡ true → Sound memory.now }
     ensures no { Sound memory.now → result ≡ true }
 {
-    if !fits(memory) {
-        return false;
-    }
-    if !tables_fit(memory) {
-        return false;
-    }
-    marks_fit(memory)
+    fits(memory) && tables_fit(memory) && marks_fit(memory)
 }

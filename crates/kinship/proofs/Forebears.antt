@@ -1,6 +1,8 @@
 -- Of whose lines somebody is: of those whose line would live if nobody else did. Assumes nothing.
-use Rattle.std.proofs.Common.{◌≡◌, ℕ, ◌<◌, ◌≤◌, true, length, sym, refl, ap, ◌∙◌, subst, ⊎_elim, arith}
-use Rattle.std.proofs.lemmas.List.FromFn.{get_or-map-range_with_len, length-map-range_with_len}
+use Rattle.std.proofs.Common.{◌≡◌, ℕ, ◌<◌, ◌≤◌, true, false, eqb, ◌+◌, List, map, length, get_or, sym, refl, ap, ◌∙◌, subst, ⊎_elim, arith}
+use Rattle.std.proofs.lemmas.List.FromFn.{get_or-map-range_with_len, length-map-range_with_len, length-enumerate_from, get_or-enumerate_from, fill_by_all}
+use Rattle.std.proofs.lemmas.List.{get_or-map, length-map}
+use Rattle.std.specs.List.{enumerate_from}
 use Rattle.std.proofs.lemmas.Bool.{cases_lt, eqb-true, eq-eqb, or_cases, both_ways}
 use Rattle.law.specs.Family.{Family, Person, person, nobody, is_child, children, some_of, line_lives}
 use Rattle.law.specs.Promise.{OfLine}
@@ -8,7 +10,27 @@ use Rattle.theory.specs.Families.{Ranked, SameParents}
 use Rattle.theory.proofs.Families.{past_nobody, lives_there, child_same, ranked_same}
 use Rattle.theory.proofs.Children.{child_of_some}
 use Rattle.theory.proofs.Lines.{line_here, line_step, ascend, descend, line_lives_other, line_lives_self, line_lives_child, line_lives_past}
+use Rattle.people.specs.Persons.{law_person}
+use Rattle.people.specs.declared.Person.{Person as PersonStruct}
+use Rattle.ways.specs.Rows.{family_of}
 use Rattle.kinship.specs.Forebears.{only_person, only_lives, LinesTo}
+
+-- somebody of a row of persons in which nobody lives but w
+abbrev pub only_at : ℕ → ℕ × PersonStruct → PersonStruct
+only_at w p = record { mother = p.1.mother; father = p.1.father; lives = eqb p.0 w; spouse = p.1.spouse }
+
+pub only_is : (ps : List PersonStruct) (w : ℕ) → family_of (map (only_at w) (enumerate_from 0 ps)) ≡ only_lives (family_of ps) w
+only_is ps w =
+    let es = enumerate_from 0 ps in
+    let d : PersonStruct = record { mother = 0; father = 0; lives = false; spouse = 0 } in
+    let long : length es ≡ length ps = length-enumerate_from 0 ps in
+    fill_by_all (only_person (family_of ps) w) (family_of (map (only_at w) es)) (length (family_of ps)) nobody
+    (length-map (map (only_at w) es) law_person ∙ length-map es (only_at w) ∙ long ∙ sym (length-map ps law_person))
+    (λ k l.
+    let h : k < length ps = let z = length-map ps law_person in omega arith in
+    get_or-map law_person (map (only_at w) es) k (only_at w (0, d)) nobody (let z = length-map es (only_at w) in omega arith)
+    ∙ ap law_person (get_or-map (only_at w) es k (0, d) (only_at w (0, d)) (omega arith) ∙ ap (only_at w) (get_or-enumerate_from 0 ps k (0, d) h ∙ ap (λ (j : ℕ). (j, get_or ps k d)) (let z : 0 + k ≡ k = omega arith in z)))
+    ∙ ap (λ (p : Person). record { mother = p.mother; father = p.father; lives = eqb k w; spouse = p.spouse }) (sym (get_or-map law_person ps k d nobody h)))
 
 module _ (f : Family) (w : ℕ) where
   size : length (only_lives f w) ≡ length f

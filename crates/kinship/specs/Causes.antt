@@ -1,5 +1,5 @@
 -- Why somebody has no share of an estate. Assumes nothing: these are definitions.
-use Rattle.std.specs.Prelude.{◌≡◌, ℕ, ◌<◌, ◌≤◌, Bool, true, false, cond, ◌≢◌, ◌⊎◌, List, [], ◌∷◌, length, filter, ◌==◌, nat_lt}
+use Rattle.std.specs.Prelude.{◌≡◌, ℕ, ◌<◌, ◌≤◌, Bool, true, false, cond, ◌≢◌, ◌⊎◌, List, [], ◌∷◌, length, filter, ◌==◌, nat_lt, codes}
 use Rattle.std.specs.List.{flat_map, AllByRecursion}
 use Rattle.law.specs.Family.{Family, person, children, parents, order}
 use Rattle.law.specs.Promise.{descends_by, OfLine}
@@ -58,3 +58,12 @@ order_in s f d =
 -- the cause, by the order that inherits and the nearest of which somebody is
 abbrev pub cause_by : ℕ → ℕ → Cause
 cause_by inherits nearest = cond (nearest == 4) NotOfFamily (cond (nat_lt inherits nearest) NearerOrder LivingForebear)
+
+-- a cause in words
+abbrev pub cause_words : Cause → List ℕ
+cause_words IsDecedent = codes "the decedent"
+cause_words NotThere = codes "not there"
+cause_words Dead = codes "dead"
+cause_words NearerOrder = codes "a nearer order inherits"
+cause_words LivingForebear = codes "a living forebear stands before them"
+cause_words NotOfFamily = codes "not of the family"

@@ -1,20 +1,21 @@
 // Why somebody has no share of an estate: of which lines they are, and who stands before them.
 #![tactic(auto)]
 
-ghost use Rattle.std.specs.Prelude.{◌≡◌, ℕ, ◌<◌, length, IfOk};
+ghost use Rattle.std.specs.Prelude.{◌≡◌, ℕ, ◌<◌, length, IfOk, Some};
 ghost use Rattle.theory.specs.Families.{Ranked};
 ghost use Rattle.ways.specs.Rows.{family_of, in_row};
 ghost use Rattle.succession.specs.Orders.{order_number};
-ghost use Rattle.kinship.specs.Causes.{order_in, cause_by, NoWay, CauseHolds};
+ghost use Rattle.kinship.specs.Causes.{order_in, cause_by, cause_words, NoWay, CauseHolds};
 ghost use Rattle.kinship.specs.Forebears.{only_lives, LinesTo};
 
 use people::Person;
 use std::alloc::{AllocError, Global};
+use std::fmt;
 use succession::Order;
 
 // Why somebody has no share: they are the decedent, are not there, or are dead, looked at in this order; else they are of the lines of a farther order only,
 // or on every line that leads to them somebody lives who stands before them, or no line leads to them.
-#[derive(Clone, Copy, PartialEq, Eq)]
+#[derive(Clone, Copy, Debug, PartialEq, Eq, Hash)]
 pub enum Cause {
     IsDecedent,
     NotThere,
@@ -24,26 +25,33 @@ pub enum Cause {
     NotOfFamily,
 }
 
+impl fmt::Display for Cause {
+    ghost output = { λ cause. Some (cause_words cause) };
+
+    fn fmt<W: fmt::Write>(&self, f: &mut fmt::Formatter<W>) -> fmt::Result {
+        f.write_str(match self {
+            Cause::IsDecedent => "the decedent",
+            Cause::NotThere => "not there",
+            Cause::Dead => "dead",
+            Cause::NearerOrder => "a nearer order inherits",
+            Cause::LivingForebear => "a living forebear stands before them",
+            Cause::NotOfFamily => "not of the family",
+        })
+    }
+}
+
 // The same family, in which nobody lives but one.
 fn only_living(heap: Global, family: &[Person], who: usize) -> Result<Vec<Person>, AllocError>
     ensures value { IfOk result (λ v. family_of v.items ≡ only_lives (family_of family.now) who) }
 {
-    let mut only = Vec::new(heap);
-    for index in 0..family.len() {
-        let Person {
-            mother,
-            father,
-            spouse,
-            ..
-        } = ways::person_at(family, index);
-        only.push(Person {
-            mother,
-            father,
+    family
+        .iter()
+        .enumerate()
+        .map(|(index, person)| Person {
             lives: index == who,
-            spouse,
-        })?;
-    }
-    Ok(only)
+            ..*person
+        })
+        .collect(heap)
 }
 
 // Of whose lines somebody is, who is there.
@@ -51,19 +59,7 @@ pub fn lines_to(heap: Global, family: &[Person], who: usize) -> Result<Vec<bool>
     ensures value { IfOk result (λ v. ((rk : ℕ → ℕ) → Ranked (family_of family.now) rk → who < length family.now → LinesTo (family_of family.now) who (in_row v.items))) }
 {
     let only = only_living(heap, family, who)?;
-    ways::living_lines(heap, only.as_slice(), family.len())
-}
-
-// The number of an order; 4 stands for none.
-fn number(order: Order) -> u32
-    ensures value { result ≡ order_number order }
-{
-    match order {
-        Order::Children => 1,
-        Order::Parents => 2,
-        Order::Grandparents => 3,
-        Order::Nobody => 4,
-    }
+    ways::living_lines(heap, &only, family.len())
 }
 
 // The nearest order of which a line is in a set.
@@ -72,24 +68,24 @@ fn nearest_order(
     family: &[Person],
     set: &[bool],
     decedent: usize,
-) -> Result<u32, AllocError>
-    ensures value { IfOk result (λ o. o ≡ order_in (in_row set.now) (family_of family.now) decedent) }
+) -> Result<Order, AllocError>
+    ensures value { IfOk result (λ o. order_number o ≡ order_in (in_row set.now) (family_of family.now) decedent) }
 {
     let lines = reasons::lines_in(heap, family, set, decedent)?;
-    Ok(number(reasons::order_of(&lines)))
+    Ok(reasons::order_of(&lines))
 }
 
 // Why somebody who lives has no share, by the order that inherits and the nearest of which they are.
-fn cause_of(inherits: u32, nearest: u32) -> Cause
-    ensures value { result ≡ cause_by inherits nearest }
+fn cause_of(inherits: Order, nearest: Order) -> Cause
+    ensures value { result ≡ cause_by (order_number inherits) (order_number nearest) }
 {
-    if nearest == 4 {
-        return Cause::NotOfFamily;
+    if nearest == Order::Nobody {
+        Cause::NotOfFamily
+    } else if inherits < nearest {
+        Cause::NearerOrder
+    } else {
+        Cause::LivingForebear
     }
-    if inherits < nearest {
-        return Cause::NearerOrder;
-    }
-    Cause::LivingForebear
 }
 
 // Why somebody has no share, if no way of the relatives ends at them.
@@ -104,15 +100,15 @@ pub fn why_not(
     if who == decedent {
         return Ok(Cause::IsDecedent);
     }
-    if who >= family.len() {
+    let Some(person) = family.get(who) else {
         return Ok(Cause::NotThere);
-    }
-    if !ways::person_at(family, who).lives {
+    };
+    if !person.lives {
         return Ok(Cause::Dead);
     }
     let lives = ways::living_lines(heap, family, decedent)?;
-    let inherits = nearest_order(heap, family, lives.as_slice(), decedent)?;
+    let inherits = nearest_order(heap, family, &lives, decedent)?;
     let above = lines_to(heap, family, who)?;
-    let nearest = nearest_order(heap, family, above.as_slice(), decedent)?;
+    let nearest = nearest_order(heap, family, &above, decedent)?;
     Ok(cause_of(inherits, nearest))
 }

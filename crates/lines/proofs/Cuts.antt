@@ -1,9 +1,9 @@
 -- Words in a row of bytes, and what is before and behind them. Assumes nothing.
-use Rattle.std.proofs.Common.{◌≡◌, ℕ, ◌+◌, ◌<◌, ◌≤◌, Bool, true, false, eqb, List, [], ◌∷◌, ◌++◌, length, get_or, take, drop, Some, None, Option, sym, refl, ap, ◌∙◌, arith}
-use Rattle.std.proofs.lemmas.List.{append-nil, append_assoc, drop_more, take_more, drop_all, drop-drop, length-append, length-drop}
+use Rattle.std.proofs.Common.{◌≡◌, ℕ, zero, suc, ◌+◌, ◌<◌, ◌≤◌, Bool, true, false, eqb, List, [], ◌∷◌, ◌++◌, length, take, drop, Some, None, Option, sym, refl, ap, ◌∙◌, zero-add, arith}
+use Rattle.std.proofs.lemmas.List.{append_assoc, length-append}
 use Rattle.std.proofs.lemmas.Bool.{and_parts, eqb-true, eq-eqb, and_from, cond-true, cond-false}
 use Rattle.std.specs.Option.{option_map}
-use Rattle.lines.specs.Words.{begins, Halves, after_all, cut}
+use Rattle.lines.specs.Words.{begins, StandsNowhere, StandsFirst, Halves, after_all, cut}
 
 -- two tests that hold together are the same
 pub same_test : (r s : Bool) → (r ≡ true → s ≡ true) → (s ≡ true → r ≡ true) → r ≡ s
@@ -34,13 +34,6 @@ pub mapped_after : (xs ys : List ℕ) (o : Option Halves) → option_map (after_
 mapped_after xs ys None = refl
 mapped_after xs ys (Some h) = ap (λ (bs : List ℕ). Some (record { before = bs; behind = h.behind })) (sym (append_assoc xs ys h.before))
 
--- what was passed so far, and what the rest gives, is what the whole gives
-pub passed_none : (w bs : List ℕ) → option_map (after_all []) (cut w bs) ≡ cut w bs
-passed_none w bs = same (cut w bs) where
-  same : (o : Option Halves) → option_map (after_all []) o ≡ o
-  same None = refl
-  same (Some h) = refl
-
 pub cut_other : (w bs : List ℕ) (b : ℕ) → begins w (b ∷ bs) ≡ false → cut w (b ∷ bs) ≡ option_map (after_all (b ∷ [])) (cut w bs)
 unfolding cut
 cut_other w bs b e = cond-false (begins w (b ∷ bs)) (Some (record { before = []; behind = drop (length w) (b ∷ bs) })) (option_map (after_all (b ∷ [])) (cut w bs)) e
@@ -50,25 +43,20 @@ unfolding cut
 cut_here w [] h e = absurd (omega arith)
 cut_here w (b ∷ bs) h e = cond-true (begins w (b ∷ bs)) (Some (record { before = []; behind = drop (length w) (b ∷ bs) })) (option_map (after_all (b ∷ [])) (cut w bs)) e
 
-pub passed_more :
-    (w bs : List ℕ) (at : ℕ) → at < length bs → begins w (drop at bs) ≡ false → option_map (after_all (take at bs)) (cut w (drop at bs)) ≡ cut w bs →
-    option_map (after_all (take (at + 1) bs)) (cut w (drop (at + 1) bs)) ≡ cut w bs
-passed_more w bs at h e inv =
-    let b = get_or bs at 0 in
-    let d : drop at bs ≡ b ∷ drop (at + 1) bs = drop_more bs at 0 h in
-    let t : take (at + 1) bs ≡ take at bs ++ b ∷ [] = take_more bs at 0 h in
-    let rest = cut w (drop (at + 1) bs) in
-    ap (λ (xs : List ℕ). option_map (after_all xs) rest) t
-    ∙ (sym (mapped_after (take at bs) (b ∷ []) rest)
-    ∙ (ap (option_map (after_all (take at bs))) (sym (cut_other w (drop (at + 1) bs) b (ap (begins w) (sym d) ∙ e)) ∙ ap (cut w) (sym d)) ∙ inv))
-
-pub passed_all : (w bs : List ℕ) (at : ℕ) → length bs ≤ at → option_map (after_all (take at bs)) (cut w (drop at bs)) ≡ cut w bs → None ≡ cut w bs
+-- a word that stands nowhere
+pub cut_nowhere : (w bs : List ℕ) → StandsNowhere w bs → None ≡ cut w bs
 unfolding cut
-passed_all w bs at h inv = sym (ap (λ (xs : List ℕ). option_map (after_all (take at bs)) (cut w xs)) (drop_all at bs h)) ∙ inv
+cut_nowhere w [] f = refl
+cut_nowhere w (b ∷ bs) f =
+    ap (option_map (after_all (b ∷ []))) (cut_nowhere w bs (λ k h. f (suc k) (omega arith))) ∙ sym (cut_other w bs b (f 0 (omega arith)))
 
-pub passed_here :
-    (w bs : List ℕ) (at : ℕ) → at < length bs → begins w (drop at bs) ≡ true → option_map (after_all (take at bs)) (cut w (drop at bs)) ≡ cut w bs →
-    Some (record { before = take at bs; behind = drop (at + length w) bs }) ≡ cut w bs
-passed_here w bs at h e inv =
-    let here = cut_here w (drop at bs) (omega (arith, length-drop at bs)) e in
-    (λ i. Some (record { before = sym (append-nil (take at bs)) i; behind = sym (drop-drop (length w) at bs) i })) ∙ (sym (ap (option_map (after_all (take at bs))) here) ∙ inv)
+-- a word at its first place
+pub cut_first : (w bs : List ℕ) (at : ℕ) → StandsFirst w bs at → Some (record { before = take at bs; behind = drop (at + length w) bs }) ≡ cut w bs
+cut_first w [] at h = absurd (omega (arith, h.inside))
+cut_first w (b ∷ bs) zero h =
+    ap (λ (n : ℕ). Some (record { before = []; behind = drop n (b ∷ bs) })) (zero-add (length w)) ∙ sym (cut_here w (b ∷ bs) (omega arith) h.here)
+cut_first w (b ∷ bs) (suc at) h =
+    let rest : StandsFirst w bs at = record { inside = omega (arith, h.inside); here = h.here; before = λ k l. h.before (suc k) (omega arith) } in
+    let n : suc at + length w ≡ suc (at + length w) = omega arith in
+    ap (λ (n : ℕ). Some (record { before = b ∷ take at bs; behind = drop n (b ∷ bs) })) n
+    ∙ (ap (option_map (after_all (b ∷ []))) (cut_first w bs at rest) ∙ sym (cut_other w bs b (h.before 0 (omega arith))))

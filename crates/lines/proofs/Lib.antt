@@ -1,5 +1,4 @@
 pub mod Cuts
 pub mod Texts
 pub mod Readings
-pub mod Appended
 pub mod OneForm

@@ -1,8 +1,13 @@
 -- Reading a line piece by piece. Assumes nothing.
-use Rattle.std.proofs.Common.{◌≡◌, ℕ, Bool, List, Some, None, codes, Option, ap, ◌∙◌}
+use Rattle.std.proofs.Common.{◌≡◌, ℕ, Bool, List, Some, None, Ok, Err, codes, Option, Result, IsErr, refl, ap, ◌∙◌, rules}
+use Rattle.std.specs.Result.{result_ok}
 use Rattle.lines.specs.Words.{Split, split_off}
 use Rattle.lines.specs.Names.{name_in}
 use Rattle.lines.specs.Grammar.{Parents, spouse_in, died_in, parents_in, joined_up, read_line}
+
+pub none_from_err : {T E : Type 0} (r : Result T E) → IsErr r → result_ok r ≡ None
+none_from_err (Ok x) h = absurd (search rules)
+none_from_err (Err e) h = refl
 
 -- the pieces that a line is cut into
 pub read_pieces :

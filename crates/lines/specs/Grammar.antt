@@ -1,11 +1,11 @@
 -- What a line of a family says, which rows of bytes are such a line, and what is printed. Assumes nothing: these are definitions.
 use Rattle.std.specs.Prelude.{◌≡◌, ℕ, Bool, true, false, cond, ◌&&◌, List, [], ◌∷◌, ◌++◌, Some, None, codes, Option}
-use Rattle.std.specs.Borrow.{Bor}
 use Rattle.std.specs.Option.{option_map}
 use Rattle.std.specs.Str.{bytes_eq}
 use Rattle.lines.specs.Words.{Halves, cut, split_off}
 use Rattle.lines.specs.Names.{unknown, is_name, name_in}
 use Rattle.lines.specs.declared.Entry.{Entry}
+use Rattle.lines.specs.declared.Parents as code
 
 -- What a line says of a person: names, as bytes, and whether they died.
 pub record Line : Type 0 where
@@ -111,6 +111,10 @@ OneForm =
     ((l : Line) → all_names l ≡ true → read_line (line_text l) ≡ Some l)
     × ((bs : List ℕ) (l : Line) → read_line bs ≡ Some l → (all_names l ≡ true) × (line_text l ≡ bs))
 
--- the parents that two names are
-abbrev pub parents : Option (Bor (List ℕ)) × Option (Bor (List ℕ)) → Parents
-parents r = record { mother = option_map (λ x. x.now) r.0; father = option_map (λ x. x.now) r.1 }
+-- what is told of bytes that are no name, or no line
+abbrev pub unreadable_words : List ℕ
+unreadable_words = codes "it can't be read"
+
+-- what the code's parents are
+abbrev pub parents : code.Parents → Parents
+parents p = record { mother = option_map (λ x. x.now) p.mother; father = option_map (λ x. x.now) p.father }

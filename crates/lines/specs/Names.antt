@@ -1,5 +1,6 @@
 -- Names of persons as bytes. Assumes nothing: these are definitions.
-use Rattle.std.specs.Prelude.{ℕ, ◌+◌, ◌-◌, Bool, true, false, cond, not, ◌&&◌, ◌||◌, List, [], ◌∷◌, length, Some, None, codes, Option, ◌==◌, nat_le, nat_lt, slice_index_or}
+use Rattle.std.specs.Prelude.{ℕ, ◌-◌, Bool, false, cond, not, ◌&&◌, ◌||◌, List, [], ◌∷◌, length, Some, None, codes, Option, ◌==◌, nat_le, nat_lt, slice_index_or, count_by}
+use Rattle.std.specs.List.{list_all}
 use Rattle.std.proofs.Math.Utf8.{encodes, scalars}
 use Rattle.std.specs.Str.{bytes_eq, chars}
 use Rattle.lines.specs.Words.{begins}
@@ -12,16 +13,14 @@ abbrev pub name_byte : ℕ → Bool
 name_byte b = letter b || (b == 32 || b == 45)
 
 abbrev pub name_bytes : List ℕ → Bool
-name_bytes [] = true
-name_bytes (b ∷ bs) = name_byte b && name_bytes bs
+name_bytes bs = list_all name_byte bs
 
 -- How many characters: bytes from 128 to 191 carry a character on, and all others begin one.
-abbrev pub starts_character : ℕ → ℕ
-starts_character b = cond (nat_le 128 b && nat_lt b 192) 0 1
+abbrev pub starts_character : ℕ → Bool
+starts_character b = not (nat_le 128 b && nat_lt b 192)
 
 abbrev pub characters : List ℕ → ℕ
-characters [] = 0
-characters (b ∷ bs) = starts_character b + characters bs
+characters bs = count_by starts_character bs
 
 -- The bytes are text in UTF-8: the characters that they spell are spelled by them.
 unfoldable pub is_text : List ℕ → Bool

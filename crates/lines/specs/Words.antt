@@ -1,5 +1,5 @@
 -- Words in a row of bytes: where they stand, and what is before and behind them. Assumes nothing: these are definitions.
-use Rattle.std.specs.Prelude.{ℕ, Bool, true, false, cond, ◌&&◌, List, [], ◌∷◌, ◌++◌, length, drop, Some, None, Option, ◌==◌}
+use Rattle.std.specs.Prelude.{◌≡◌, ℕ, ◌<◌, Bool, true, false, cond, ◌&&◌, List, [], ◌∷◌, ◌++◌, length, drop, Some, None, Option, ◌==◌}
 use Rattle.std.specs.Borrow.{Bor}
 use Rattle.std.specs.Option.{option_map}
 
@@ -8,6 +8,15 @@ abbrev pub begins : List ℕ → List ℕ → Bool
 begins [] bs = true
 begins (w ∷ ws) [] = false
 begins (w ∷ ws) (b ∷ bs) = w == b && begins ws bs
+
+-- at no place w stands, and the first place where it does
+abbrev pub StandsNowhere : List ℕ → List ℕ → Type 0
+StandsNowhere w bs = (k : ℕ) → k < length bs → begins w (drop k bs) ≡ false
+
+pub record StandsFirst (w bs : List ℕ) (at : ℕ) : Type 0 where
+  pub inside : at < length bs
+  pub here : begins w (drop at bs) ≡ true
+  pub before : (k : ℕ) → k < at → begins w (drop k bs) ≡ false
 
 -- bytes before a word, and bytes behind it
 pub record Halves : Type 0 where

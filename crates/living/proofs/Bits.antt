@@ -6,7 +6,7 @@ use Rattle.rows.specs.Tables.{Wide}
 use Rattle.bits.specs.Sets.{bit_row, with_member, without_member}
 use Rattle.people.specs.Layout.{person_row, laid, limit_in}
 use Rattle.people.proofs.Layouts.{persons_wide, around_bits, limit_laid}
-use Rattle.living.specs.Marks.{unsupported, raised, taken_out, parent_out, lowered, parents_out, ended}
+use Rattle.living.specs.Marks.{unsupported, raised, taken_out, parent_out, lowered, parents_out}
 use Rattle.living.specs.Places.{first_unsupported}
 
 -- what `contains`, `insert` and `remove` say of laid out words, from what they say of words around a row of bits
@@ -117,14 +117,3 @@ parents_stop zero n f p s some h e =
     once ∙ again ∙ parents_both 2 n f p s some refl
 parents_stop (suc zero) n f p s some h e = none_out (n - 1) f p (parents_out 1 (n - 1) f p s) e ∙ parents_both 2 n f p s some refl
 parents_stop (suc (suc turn)) n f p s some h e = absurd (omega arith)
-
--- somebody who ceased to live
-pub ended_none : (f : Family) (p : ℕ) (s : ℕ → Bool) → None ≡ first_unsupported f s (suc p) 0 → s ≡ ended f p s
-ended_none f p s e =
-    elim (cases_Bool (unsupported f s (suc p))) [
-      | inl h ↦ absurd (let w = e ∙ cond-true (unsupported f s (suc p)) _ _ h in let x : ◌≡◌ {A = ℕ} 0 1 = cc in omega arith)
-      | inr h ↦ sym (cond-false (unsupported f s (suc p)) _ _ h)
-    ]
-
-pub ended_some : (f : Family) (p q : ℕ) (s : ℕ → Bool) → Some q ≡ first_unsupported f s (suc p) 0 → lowered (length f) f q (without_member s q) ≡ ended f p s
-ended_some f p q s e = link_out (λ r u. lowered (length f) f r u) f s (suc p) q None s e (λ z. absurd (let x : ◌≡◌ {A = ℕ} 0 1 = cc in omega arith))

@@ -1,20 +1,15 @@
 // Which lines of descent live, kept as bits as people are born and die: upward from the person, stopping where nothing changes.
 #![tactic(auto)]
 
-ghost use Rattle.std.specs.Prelude.{◌≡◌, ℕ, ◌+◌, ◌*◌, ◌<◌, ◌≤◌, Bool, List, length, IfSome, if◌then◌else◌, nat_eq};
+ghost use Rattle.std.specs.Prelude.{◌≡◌, ℕ, ◌-◌, ◌<◌, ◌≤◌, Bool, cond, not, ◌&&◌, List, length, Some, None, IfSome};
 ghost use Rattle.law.specs.Family.{Family};
 ghost use Rattle.rows.specs.Tables.{Wide};
 ghost use Rattle.children.specs.Links.{link_row};
 ghost use Rattle.people.specs.Layout.{person_row, laid, limit_in, count_in, Roomy};
-ghost use Rattle.living.specs.Marks.{raised, lowered, begun, ended};
+ghost use Rattle.living.specs.Marks.{supported, unsupported, raised, lowered, begun, ended};
 ghost use Rattle.living.specs.Places.{ParentsThere, Held, first_unsupported};
 
-// Where the bits lie in memory with this limit: behind the header and two tables of four words for each person.
-fn bits_at(limit: u32) -> usize
-    ensures value { result ≡ 2 + 8 * limit }
-{
-    2 + 8 * limit as usize
-}
+use people::{Children, marks_at};
 
 // Puts somebody, given as 0 or one more than a number, into the set, and then their parents, stopping at those who are in it.
 fn raise(memory: &mut [u32], steps: u32, link: u32)
@@ -30,7 +25,7 @@ fn raise(memory: &mut [u32], steps: u32, link: u32)
     let Some(who) = people::somebody(memory[0], link) else {
         return;
     };
-    let at = bits_at(memory[0]);
+    let at = marks_at(memory[0]);
     if bits::contains(memory, at, who) {
         return;
     }
@@ -40,44 +35,46 @@ fn raise(memory: &mut [u32], steps: u32, link: u32)
     raise(memory, steps - 1, someone.father);
 }
 
-// The first of two, or the second.
-fn of_two(side: u32, first: u32, second: u32) -> u32
-    ensures value { result ≡ (if nat_eq side 0 then first else second) }
+// Whether somebody lives, or has a child in the set.
+pub fn is_supported(memory: &[u32], who: u32) -> bool
+    requires room { Roomy memory.now }
+    requires there { who < limit_in memory.now }
+    ensures value { (n : ℕ) (f : Family) (s : ℕ → Bool) (work rest : List ℕ) → Held memory.now n f s work rest → result ≡ supported f s who }
 {
-    if side == 0 { first } else { second }
+    people::read(memory, who).lives || Children::of(memory, who).any(|child| lives(memory, child))
 }
 
-// The first of two parents, each given as 0 or one more than a number, who is in the set though dead and without a child in it.
+// Whether somebody is in the set though nothing keeps them there.
+fn is_unsupported(memory: &[u32], who: u32) -> bool
+    requires room { Roomy memory.now }
+    requires there { who < limit_in memory.now }
+    ensures value { (n : ℕ) (f : Family) (s : ℕ → Bool) (work rest : List ℕ) → Held memory.now n f s work rest → result ≡ (s who && not (supported f s who)) }
+{
+    lives(memory, who) && !is_supported(memory, who)
+}
+
+// Somebody who is given as 0 or one more than a number, if they are in the set though nothing keeps them there.
+fn if_unsupported(memory: &[u32], link: u32) -> Option<u32>
+    requires room { Roomy memory.now }
+    ensures within { IfSome result (λ p. p < limit_in memory.now) }
+    ensures value { (n : ℕ) (f : Family) (s : ℕ → Bool) (work rest : List ℕ) → Held memory.now n f s work rest → link ≤ n
+        → result ≡ cond (unsupported f s link) (Some (link - 1)) None }
+{
+    let who = people::somebody(memory[0], link)?;
+    is_unsupported(memory, who).then_some(who)
+}
+
+// The first of two parents, each given as 0 or one more than a number, who is in the set though nothing keeps them there.
 fn unsupported_parent(memory: &[u32], mother: u32, father: u32) -> Option<u32>
     requires room { Roomy memory.now }
     ensures within { IfSome result (λ p. p < limit_in memory.now) }
     ensures value { (n : ℕ) (f : Family) (s : ℕ → Bool) (work rest : List ℕ) → Held memory.now n f s work rest → mother ≤ n → father ≤ n
         → result ≡ first_unsupported f s mother father }
 {
-    let at = bits_at(memory[0]);
-    'parents: for side in 0..2u32 {
-        let Some(parent) = people::somebody(memory[0], of_two(side, mother, father)) else {
-            continue 'parents;
-        };
-        if !bits::contains(memory, at, parent) || people::read(memory, parent).lives {
-            continue 'parents;
-        }
-        let mut link = people::first_child(memory, parent);
-        for turn in 0..memory[1] {
-            let Some(child) = people::somebody(memory[0], link) else {
-                break;
-            };
-            if bits::contains(memory, at, child) {
-                continue 'parents;
-            }
-            link = people::next_child(memory, parent, child);
-        }
-        return Some(parent);
-    }
-    None
+    if_unsupported(memory, mother).or_else(|| if_unsupported(memory, father))
 }
 
-// Takes somebody's parents out of the set, and then theirs, as far as nothing keeps them in it.
+// Takes somebody's parents out of the set, and then theirs, as far as nothing keeps them in it. Two turns are enough, as there are two parents.
 fn lower(memory: &mut [u32], steps: u32, who: u32)
     requires room { Roomy memory.old }
     requires there { who < limit_in memory.old }
@@ -89,7 +86,7 @@ fn lower(memory: &mut [u32], steps: u32, who: u32)
     if steps == 0 {
         return;
     }
-    let at = bits_at(memory[0]);
+    let at = marks_at(memory[0]);
     let someone = people::read(memory, who);
     for turn in 0..2u32 {
         let Some(parent) = unsupported_parent(memory, someone.mother, someone.father) else {
@@ -122,13 +119,13 @@ pub fn ends(memory: &mut [u32], who: u32)
     ensures left { (n : ℕ) (f : Family) (s : ℕ → Bool) (work rest : List ℕ) → Held memory.old n f s work rest → ParentsThere f n
         → memory.new ≡ laid n (length f) (person_row f) (link_row f) (ended f who s) work rest }
 {
-    let Some(last) = unsupported_parent(memory, who + 1, 0) else {
+    if !is_unsupported(memory, who) {
         return;
-    };
-    let at = bits_at(memory[0]);
-    bits::remove(memory, at, last);
+    }
+    let at = marks_at(memory[0]);
+    bits::remove(memory, at, who);
     let steps = memory[1];
-    lower(memory, steps, last);
+    lower(memory, steps, who);
 }
 
 // Whether somebody's line lives.
@@ -137,5 +134,5 @@ pub fn lives(memory: &[u32], who: u32) -> bool
     requires there { who < limit_in memory.now }
     ensures value { (n k : ℕ) (f : Family) (s : ℕ → Bool) (work rest : List ℕ) → memory.now ≡ laid n k (person_row f) (link_row f) s work rest → result ≡ s who }
 {
-    bits::contains(memory, bits_at(memory[0]), who)
+    bits::contains(memory, marks_at(memory[0]), who)
 }

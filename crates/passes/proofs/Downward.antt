@@ -1,31 +1,38 @@
 -- Laws of going down a list and of leaving it. Assumes nothing.
-use Rattle.std.proofs.Common.{◌≡◌, ℕ, zero, suc, ◌+◌, ◌-◌, ◌<◌, ◌≤◌, Bool, false, List, [], ◌∷◌, length, get_or, drop, set, replicate, sum, sym, refl, ap, ◌∙◌, arith}
-use Rattle.std.proofs.lemmas.List.{drop_more, drop_all, get_or-set_same, get_or-set_other, set-set, set-get_or, length-replicate}
-use Rattle.std.proofs.ByRecursion.{All-weaker, All-drop}
+use Rattle.std.proofs.Common.{◌≡◌, ℕ, zero, suc, ◌+◌, ◌-◌, ◌<◌, ◌≤◌, Bool, false, List, [], ◌∷◌, length, get_or, set, replicate, sum, sym, refl, ap, ◌∙◌, arith}
+use Rattle.std.proofs.lemmas.List.{get_or-set_same, get_or-set_other, set-set, set-get_or, length-replicate}
+use Rattle.std.proofs.ByRecursion.{All-weaker}
 use Rattle.law.specs.Family.{Family}
 use Rattle.amounts.specs.Passes.{is_in, added_each, handed_on, filled_up, cleared}
-use Rattle.amounts.specs.Lines.{divided_among}
 use Rattle.amounts.proofs.Cleared.{replicate_nothing, cleared_right}
 use Rattle.amounts.proofs.Upward.{length-filled, filled_other}
 use Rattle.amounts.proofs.Turns.{added_fits}
 use Rattle.amounts.specs.Statements.{ClearedRight}
-use Rattle.passes.specs.Rows.{Rows}
 use Rattle.passes.specs.Listings.{order_row}
 use Rattle.passes.specs.Heirs.{with_heir, heirs_of}
-use Rattle.passes.proofs.Walks.{lines_there}
+use Rattle.passes.specs.Walking.{Ahead}
+use Rattle.passes.specs.declared.Walk.{Walk}
+use Rattle.passes.proofs.Walks.{ahead_there}
 use Rattle.passes.proofs.Listings.{length-order}
 
--- a child's pieces fit while those below somebody are added to
-pub child_fits :
-    (f : Family) (who i c each n : ℕ) (row final : List ℕ) → length f ≤ n → length row ≡ n → i < length (divided_among f who) → get_or (divided_among f who) i 0 ≡ c → c < length f →
-    added_each (drop i (divided_among f who)) each row ≡ final → sum final < 4294967296 → get_or row c 0 + each < 4294967296
-child_fits f who i c each n row final room long h e there is small =
-    let ds = divided_among f who in
-    let cut : drop i ds ≡ c ∷ drop (i + 1) ds = drop_more ds i 0 h ∙ ap (λ x. x ∷ drop (i + 1) ds) e in
-    let same : sum (added_each (c ∷ drop (i + 1) ds) each row) ≡ sum final = ap (λ xs. sum (added_each xs each row)) (sym cut) ∙ ap sum is in
+-- the next of those below has more
+pub added_first : (c : ℕ) (cs : List ℕ) (more : ℕ) (row : List ℕ) → added_each (c ∷ cs) more row ≡ added_each cs more (set row c (get_or row c 0 + more))
+unfolding added_each
+added_first c cs more row = refl
+
+pub added_none : (more : ℕ) (row : List ℕ) → added_each [] more row ≡ row
+unfolding added_each
+added_none more row = refl
+
+-- a line's pieces fit while those below somebody are added to
+pub line_fits :
+    (f : Family) (w : Walk) (c each n : ℕ) (row qs final : List ℕ) → length f ≤ n → length row ≡ n → Ahead f w (c ∷ qs) → added_each (c ∷ qs) each row ≡ final → sum final < 4294967296 →
+    get_or row c 0 + each < 4294967296
+line_fits f w c each n row qs final room long a is small =
+    let there = ahead_there f w (c ∷ qs) a in
+    let same = ap sum is in
     let fits =
-    added_fits (drop (i + 1) ds) c each (sum final) row (omega arith)
-    (All-weaker (λ x. x < length f) (λ x. x < length row) (λ x k. omega arith) (drop (i + 1) ds) (All-drop (λ x. x < length f) (i + 1) ds (lines_there f who))) (omega arith) in
+    added_fits qs c each (sum final) row (let t = there.0 in omega arith) (All-weaker (λ x. x < length f) (λ x. x < length row) (λ x k. omega arith) qs there.1) (omega arith) in
     omega arith
 
 pub handed_none : (q : ℕ) (row cs : List ℕ) → length cs ≡ 0 → handed_on cs q row ≡ row
@@ -68,30 +75,31 @@ filled_cleared step below n os =
     none_left os (filled_up step below os (replicate n 0)) (λ w h. filled_other step below os (replicate n 0) w h ∙ replicate_nothing n w)
     ∙ ap (λ k. replicate k 0) (length-filled step below os (replicate n 0) ∙ length-replicate {A = ℕ} n 0)
 
-pub cleared_turn : (os : List ℕ) (i : ℕ) (row : List ℕ) → i < length os → cleared (drop i os) row ≡ cleared (drop (i + 1) os) (set row (get_or os i 0) 0)
+pub cleared_first : (q : ℕ) (qs row : List ℕ) → cleared (q ∷ qs) row ≡ cleared qs (set row q 0)
 unfolding cleared
-cleared_turn os i row h = ap (λ qs. cleared qs row) (drop_more os i 0 h)
+cleared_first q qs row = refl
 
-pub cleared_end : (os : List ℕ) (i : ℕ) (row : List ℕ) → length os ≤ i → cleared (drop i os) row ≡ row
+pub cleared_none : (row : List ℕ) → cleared [] row ≡ row
 unfolding cleared
-cleared_end os i row h = ap (λ qs. cleared qs row) (drop_all i os h)
+cleared_none row = refl
 
-pub heirs_turn : (pieces os : List ℕ) (i : ℕ) (s : ℕ → Bool) → i < length os → heirs_of pieces (drop i os) s ≡ heirs_of pieces (drop (i + 1) os) (with_heir pieces (get_or os i 0) s)
+pub heirs_first : (pieces : List ℕ) (q : ℕ) (qs : List ℕ) (s : ℕ → Bool) → heirs_of pieces (q ∷ qs) s ≡ heirs_of pieces qs (with_heir pieces q s)
 unfolding heirs_of
-heirs_turn pieces os i s h = ap (λ qs. heirs_of pieces qs s) (drop_more os i 0 h)
+heirs_first pieces q qs s = refl
 
-pub heirs_end : (pieces os : List ℕ) (i : ℕ) (s : ℕ → Bool) → length os ≤ i → heirs_of pieces (drop i os) s ≡ s
+pub heirs_none : (pieces : List ℕ) (s : ℕ → Bool) → heirs_of pieces [] s ≡ s
 unfolding heirs_of
-heirs_end pieces os i s h = ap (λ qs. heirs_of pieces qs s) (drop_all i os h)
+heirs_none pieces s = refl
 
-pub order_end : (n : ℕ) (os : List ℕ) (i : ℕ) → length os ≤ i → order_row n (drop i os) ≡ replicate n 0
+pub order_none : (n : ℕ) → order_row n [] ≡ replicate n 0
 unfolding order_row
-order_end n os i h = ap (order_row n) (drop_all i os h)
+order_none n = refl
 
--- equal rows
-pub all_rows_same :
-    (s s' : ℕ → Bool) (pieces pieces' order order' counts counts' multiples multiples' : List ℕ) → s ≡ s' → pieces ≡ pieces' → order ≡ order' → counts ≡ counts' → multiples ≡ multiples' →
-    ◌≡◌ {A = Rows} (record { heirs = s; pieces = pieces; order = order; counts = counts; multiples = multiples })
-    (record { heirs = s'; pieces = pieces'; order = order'; counts = counts'; multiples = multiples' })
-all_rows_same s s' pieces pieces' order order' counts counts' multiples multiples' a p b c d i =
-    record { heirs = a i; pieces = p i; order = b i; counts = c i; multiples = d i }
+-- who comes next where some are left, and that nobody is where none are
+pub next_left : (qs : List ℕ) (k : ℕ) → length qs ≡ k → 0 < k → (q : ℕ) × (rest : List ℕ) × (qs ≡ q ∷ rest)
+next_left [] k e h = absurd (omega arith)
+next_left (q ∷ qs) k e h = (q, qs, refl)
+
+pub none_more : (qs : List ℕ) → length qs ≤ 0 → qs ≡ []
+none_more [] h = refl
+none_more (q ∷ qs) h = absurd (omega arith)

@@ -1,7 +1,7 @@
 -- Laws of listing: who is listed by the row of counts, the rows with one more in front, and one line more. Assumes nothing.
-use Rattle.std.proofs.Common.{◌≡◌, ℕ, zero, suc, ◌+◌, ◌-◌, ◌<◌, ◌≤◌, Bool, true, false, leb, ◌≢◌, List, [], ◌∷◌, ◌++◌, length, get_or, take, set, replicate, sum_by, sym, refl, ap, ◌∙◌, subst, ⊎_elim, arith}
+use Rattle.std.proofs.Common.{◌≡◌, ℕ, zero, suc, ◌-◌, ◌<◌, ◌≤◌, true, false, leb, ◌≢◌, List, [], ◌∷◌, length, get_or, set, replicate, sum_by, sym, refl, ap, ◌∙◌, subst, ⊎_elim, arith}
 use Rattle.std.specs.List.{AllByRecursion}
-use Rattle.std.proofs.lemmas.List.{take_more, get_or-set_same, get_or-set_other, length-set, length-replicate, get_or-replicate}
+use Rattle.std.proofs.lemmas.List.{get_or-set_same, get_or-set_other, length-set, length-replicate, get_or-replicate}
 use Rattle.std.proofs.ByRecursion.{All-get_or}
 use Rattle.std.proofs.lemmas.List.Sums.{sum_by-cons}
 use Rattle.std.proofs.lemmas.Bool.{cases_eq, cases_Bool, cond-true, cond-false, cond_both}
@@ -13,7 +13,7 @@ use Rattle.amounts.specs.Statements.{Listing}
 use Rattle.amounts.proofs.Members.{in_cases, in_none}
 use Rattle.amounts.proofs.Upward.{length-filled, filled_other}
 use Rattle.amounts.proofs.Listing.{alive_there, divided_among_lives, line_listed}
-use Rattle.passes.specs.Rows.{Rows, Rowed}
+use Rattle.passes.specs.Rows.{Rowed}
 use Rattle.passes.specs.Listings.{order_row, counts_row, listed_rows, Ready}
 
 pub length-order : (n : ℕ) (os : List ℕ) → length (order_row n os) ≡ n
@@ -89,15 +89,9 @@ pub all_none : (g : ℕ → List ℕ → List ℕ) (out : List ℕ) → all_list
 unfolding all_listed
 all_none g out = refl
 
-all_push : (g : ℕ → List ℕ → List ℕ) (cs : List ℕ) (c : ℕ) (out : List ℕ) → all_listed g (cs ++ (c ∷ [])) out ≡ g c (all_listed g cs out)
+pub all_first : (g : ℕ → List ℕ → List ℕ) (c : ℕ) (cs out : List ℕ) → all_listed g (c ∷ cs) out ≡ all_listed g cs (g c out)
 unfolding all_listed
-all_push g [] c out = refl
-all_push g (d ∷ cs) c out = all_push g cs c (g d out)
-
-pub all_more :
-    (g : ℕ → List ℕ → List ℕ) (ds : List ℕ) (i c : ℕ) (out : List ℕ) → i < length ds → get_or ds i 0 ≡ c → g c (all_listed g (take i ds) out) ≡ all_listed g (take (i + 1) ds) out
-all_more g ds i c out h e =
-    sym (all_push g (take i ds) c out) ∙ ap (λ xs. all_listed g xs out) (ap (λ x. take i ds ++ (x ∷ [])) (sym e) ∙ sym (take_more ds i 0 h))
+all_first g c cs out = refl
 
 -- from a person to the line of a child
 pub ready_line :
@@ -132,13 +126,7 @@ steps_some ws n f rk ps out spare rest who count ready =
     let w = ready.ranked.within who (alive_there ready.ranked who ready.lives) in
     let enough = ready.enough in omega arith
 
--- the same rows by equal numbers
-pub rows_same :
-    (heirs : ℕ → Bool) (pieces order order' counts counts' multiples multiples' : List ℕ) → order ≡ order' → counts ≡ counts' → multiples ≡ multiples' →
-    ◌≡◌ {A = Rows} (record { heirs = heirs; pieces = pieces; order = order; counts = counts; multiples = multiples })
-    (record { heirs = heirs; pieces = pieces; order = order'; counts = counts'; multiples = multiples' })
-rows_same heirs pieces order order' counts counts' multiples multiples' a b c i = record { heirs = heirs; pieces = pieces; order = a i; counts = b i; multiples = c i }
-
+-- one more in front
 pub order_front : (n who : ℕ) (out : List ℕ) → set (order_row n out) (length out) (suc who) ≡ order_row n (who ∷ out)
 unfolding order_row
 order_front n who out = refl
@@ -147,9 +135,3 @@ pub filled_front :
     (step : List ℕ → List ℕ → ℕ) (below : ℕ → List ℕ) (who : ℕ) (out row : List ℕ) → set (filled_up step below out row) who (step (below who) (filled_up step below out row)) ≡ filled_up step below (who ∷ out) row
 unfolding filled_up
 filled_front step below who out row = refl
-
--- the header is not among the rows
-pub header_kept :
-    (ws : List ℕ) (a x b y d z i : ℕ) → i < 8450 → 8450 ≤ a → 8450 ≤ b → 8450 ≤ d → get_or (set (set (set ws a x) b y) d z) i 0 ≡ get_or ws i 0
-header_kept ws a x b y d z i h l m k =
-    get_or-set_other (set (set ws a x) b y) d i z 0 (λ e. omega arith) ∙ get_or-set_other (set ws a x) b i y 0 (λ e. omega arith) ∙ get_or-set_other ws a i x 0 (λ e. omega arith)

@@ -1,5 +1,5 @@
 -- Laws of the rows in the work area: what is read from them, and what a write leaves. Assumes nothing.
-use Rattle.std.proofs.Common.{◌≡◌, ℕ, ◌+◌, ◌-◌, ◌*◌, ◌<◌, ◌≤◌, Bool, List, ◌++◌, length, get_or, set, replicate, sym, ap, ◌∙◌, arith}
+use Rattle.std.proofs.Common.{◌≡◌, ℕ, ◌+◌, ◌-◌, ◌*◌, ◌<◌, ◌≤◌, Bool, List, ◌++◌, length, get_or, set, replicate, sym, refl, ap, ◌∙◌, arith}
 use Rattle.std.proofs.lemmas.List.{append_assoc, length-append, length-set}
 use Rattle.law.specs.Family.{Family, Part}
 use Rattle.rows.proofs.Regions.{region_read, region_set}
@@ -12,7 +12,9 @@ use Rattle.shares.specs.Work.{parts_words}
 use Rattle.shares.proofs.Work.{parts_area, length-area}
 use Rattle.people.specs.Layout.{person_row, working, limit_in, count_in}
 use Rattle.people.proofs.Layouts.{persons_wide, around_work, limit_working, count_working}
-use Rattle.passes.specs.Rows.{Rows, rows_area, Rowed, with_heirs, with_pieces, with_order, with_counts, with_multiples}
+use Rattle.passes.specs.Rows.{Rows, rows_area, Rowed, with_heirs, with_pieces, with_order, with_counts, with_multiples, row_of, row_number, with_row}
+use Rattle.passes.specs.declared.Row.{Row}
+use Rattle.passes.specs.declared.Row.TheVariants.{Pieces, Order, Counts, Multiples}
 
 -- what lies around a row, whichever it is
 abbrev Around : ℕ → ℕ → Family → List Part → (List ℕ → Rows) → List ℕ → List ℕ → Type 0
@@ -77,17 +79,20 @@ around_heirs n f ps r spare rest few =
       λ s. around.2 (rows_area ps (with_heirs r s) spare) ∙ simp append_assoc,
     )
 
--- a word of a row
-row_read :
-    (ws : List ℕ) (at n : ℕ) (f : Family) (ps : List Part) (g : List ℕ → Rows) (spare rest row : List ℕ) (i : ℕ) → Around at n f ps g spare rest → ws ≡ working n f (rows_area ps (g row) spare) rest →
-    i < length row → get_or ws (at + i) 0 ≡ get_or row i 0
-row_read ws at n f ps g spare rest row i around e h = ap (λ u. get_or u (at + i) 0) (e ∙ around.3 row) ∙ region_read around.0 row around.1 0 at i around.2 h
+-- what lies around one of the four rows
+around_row :
+    (n : ℕ) (f : Family) (ps : List Part) (r : Rows) (spare rest : List ℕ) → length ps ≤ 4096 → length r.pieces ≡ n → length r.order ≡ n → length r.counts ≡ n → (row : Row) →
+    Around (8450 + (8 + row_number row) * n) n f ps (with_row row r) spare rest
+around_row n f ps r spare rest few p o c Pieces = around_pieces n f ps r spare rest few p o c
+around_row n f ps r spare rest few p o c Order = around_order n f ps r spare rest few p o c
+around_row n f ps r spare rest few p o c Counts = around_counts n f ps r spare rest few p o c
+around_row n f ps r spare rest few p o c Multiples = around_multiples n f ps r spare rest few p o c
 
-row_set :
-    (ws : List ℕ) (at n : ℕ) (f : Family) (ps : List Part) (g : List ℕ → Rows) (spare rest row : List ℕ) (i v : ℕ) → Around at n f ps g spare rest → ws ≡ working n f (rows_area ps (g row) spare) rest →
-    i < length row → set ws (at + i) v ≡ working n f (rows_area ps (g (set row i v)) spare) rest
-row_set ws at n f ps g spare rest row i v around e h =
-    ap (λ u. set u (at + i) v) (e ∙ around.3 row) ∙ region_set around.0 row around.1 v at i around.2 h ∙ sym (around.3 (set row i v))
+with_own : (r : Rows) (row : Row) → with_row row r (row_of row r) ≡ r
+with_own r Pieces = refl
+with_own r Order = refl
+with_own r Counts = refl
+with_own r Multiples = refl
 
 module _ {ws : List ℕ} {n : ℕ} {f : Family} {ps : List Part} {r : Rows} {spare rest : List ℕ} (held : Rowed ws n f ps r spare rest) where
   pub rowed_limit : limit_in ws ≡ n
@@ -96,81 +101,43 @@ module _ {ws : List ℕ} {n : ℕ} {f : Family} {ps : List Part} {r : Rows} {spa
   pub rowed_count : count_in ws ≡ length f
   rowed_count = ap count_in held.words ∙ count_working n f (rows_area ps r spare) rest
 
-  pub pieces_read : (i : ℕ) → i < n → get_or ws (8450 + 8 * n + i) 0 ≡ get_or r.pieces i 0
-  pieces_read i h =
-      row_read ws (8450 + 8 * n) n f ps (with_pieces r) spare rest r.pieces i
-      (around_pieces n f ps r spare rest held.few held.pieces_long held.order_long held.counts_long) held.words (omega (arith, held.pieces_long))
+  around : (row : Row) → Around (8450 + (8 + row_number row) * n) n f ps (with_row row r) spare rest
+  around row = around_row n f ps r spare rest held.few held.pieces_long held.order_long held.counts_long row
 
-  pub order_read : (i : ℕ) → i < n → get_or ws (8450 + 9 * n + i) 0 ≡ get_or r.order i 0
-  order_read i h =
-      row_read ws (8450 + 9 * n) n f ps (with_order r) spare rest r.order i
-      (around_order n f ps r spare rest held.few held.pieces_long held.order_long held.counts_long) held.words (omega (arith, held.order_long))
+  row_words : (row : Row) → ws ≡ (around row).0 ++ (row_of row r ++ (around row).1)
+  row_words row =
+      held.words ∙ ap (λ q. working n f (rows_area ps q spare) rest) (sym (with_own r row)) ∙ (around row).3 (row_of row r)
 
-  pub counts_read : (i : ℕ) → i < n → get_or ws (8450 + 10 * n + i) 0 ≡ get_or r.counts i 0
-  counts_read i h =
-      row_read ws (8450 + 10 * n) n f ps (with_counts r) spare rest r.counts i
-      (around_counts n f ps r spare rest held.few held.pieces_long held.order_long held.counts_long) held.words (omega (arith, held.counts_long))
+  pub row_long : (row : Row) → length (row_of row r) ≡ n
+  row_long Pieces = held.pieces_long
+  row_long Order = held.order_long
+  row_long Counts = held.counts_long
+  row_long Multiples = held.multiples_long
 
-  pub multiples_read : (i : ℕ) → i < n → get_or ws (8450 + 11 * n + i) 0 ≡ get_or r.multiples i 0
-  multiples_read i h =
-      row_read ws (8450 + 11 * n) n f ps (with_multiples r) spare rest r.multiples i
-      (around_multiples n f ps r spare rest held.few held.pieces_long held.order_long held.counts_long) held.words (omega (arith, held.multiples_long))
+  -- a word of a row
+  pub row_read : (row : Row) (i at : ℕ) → i < n → at ≡ 8450 + (8 + row_number row) * n + i → get_or ws at 0 ≡ get_or (row_of row r) i 0
+  row_read row i at h e =
+      (λ j. get_or (row_words row j) (e j) 0)
+      ∙ region_read (around row).0 (row_of row r) (around row).1 0 (8450 + (8 + row_number row) * n) i (around row).2 (omega (arith, row_long row))
 
-  pub pieces_set : (i v : ℕ) → i < n → Rowed (set ws (8450 + 8 * n + i) v) n f ps (with_pieces r (set r.pieces i v)) spare rest
-  pieces_set i v h =
-      record {
-        words =
-            row_set ws (8450 + 8 * n) n f ps (with_pieces r) spare rest r.pieces i v
-            (around_pieces n f ps r spare rest held.few held.pieces_long held.order_long held.counts_long) held.words (omega (arith, held.pieces_long));
-        few = held.few;
-        room = held.room;
-        pieces_long = length-set r.pieces i v ∙ held.pieces_long;
-        order_long = held.order_long;
-        counts_long = held.counts_long;
-        multiples_long = held.multiples_long;
-      }
+  -- words with another row in the place of one
+  rowed_with : (row : Row) (later xs : List ℕ) → length xs ≡ n → later ≡ working n f (rows_area ps (with_row row r xs) spare) rest → Rowed later n f ps (with_row row r xs) spare rest
+  rowed_with Pieces later xs long words =
+      record { words = words; few = held.few; room = held.room; pieces_long = long; order_long = held.order_long; counts_long = held.counts_long; multiples_long = held.multiples_long }
+  rowed_with Order later xs long words =
+      record { words = words; few = held.few; room = held.room; pieces_long = held.pieces_long; order_long = long; counts_long = held.counts_long; multiples_long = held.multiples_long }
+  rowed_with Counts later xs long words =
+      record { words = words; few = held.few; room = held.room; pieces_long = held.pieces_long; order_long = held.order_long; counts_long = long; multiples_long = held.multiples_long }
+  rowed_with Multiples later xs long words =
+      record { words = words; few = held.few; room = held.room; pieces_long = held.pieces_long; order_long = held.order_long; counts_long = held.counts_long; multiples_long = long }
 
-  pub order_set : (i v : ℕ) → i < n → Rowed (set ws (8450 + 9 * n + i) v) n f ps (with_order r (set r.order i v)) spare rest
-  order_set i v h =
-      record {
-        words =
-            row_set ws (8450 + 9 * n) n f ps (with_order r) spare rest r.order i v
-            (around_order n f ps r spare rest held.few held.pieces_long held.order_long held.counts_long) held.words (omega (arith, held.order_long));
-        few = held.few;
-        room = held.room;
-        pieces_long = held.pieces_long;
-        order_long = length-set r.order i v ∙ held.order_long;
-        counts_long = held.counts_long;
-        multiples_long = held.multiples_long;
-      }
-
-  pub counts_set : (i v : ℕ) → i < n → Rowed (set ws (8450 + 10 * n + i) v) n f ps (with_counts r (set r.counts i v)) spare rest
-  counts_set i v h =
-      record {
-        words =
-            row_set ws (8450 + 10 * n) n f ps (with_counts r) spare rest r.counts i v
-            (around_counts n f ps r spare rest held.few held.pieces_long held.order_long held.counts_long) held.words (omega (arith, held.counts_long));
-        few = held.few;
-        room = held.room;
-        pieces_long = held.pieces_long;
-        order_long = held.order_long;
-        counts_long = length-set r.counts i v ∙ held.counts_long;
-        multiples_long = held.multiples_long;
-      }
-
-  pub multiples_set : (i v : ℕ) → i < n → Rowed (set ws (8450 + 11 * n + i) v) n f ps (with_multiples r (set r.multiples i v)) spare rest
-  multiples_set i v h =
-      record {
-        words =
-            row_set ws (8450 + 11 * n) n f ps (with_multiples r) spare rest r.multiples i v
-            (around_multiples n f ps r spare rest held.few held.pieces_long held.order_long held.counts_long) held.words (omega (arith, held.multiples_long));
-        few = held.few;
-        room = held.room;
-        pieces_long = held.pieces_long;
-        order_long = held.order_long;
-        counts_long = held.counts_long;
-        multiples_long = length-set r.multiples i v ∙ held.multiples_long;
-      }
+  pub row_set :
+      (row : Row) (i at v : ℕ) → i < n → at ≡ 8450 + (8 + row_number row) * n + i → Rowed (set ws at v) n f ps (with_row row r (set (row_of row r) i v)) spare rest
+  row_set row i at v h e =
+      rowed_with row (set ws at v) (set (row_of row r) i v) (length-set (row_of row r) i v ∙ row_long row)
+      ((λ j. set (row_words row j) (e j) v)
+      ∙ region_set (around row).0 (row_of row r) (around row).1 v (8450 + (8 + row_number row) * n) i (around row).2 (omega (arith, row_long row))
+      ∙ sym ((around row).3 (set (row_of row r) i v)))
 
   -- one heir more
   pub heir_inserted :

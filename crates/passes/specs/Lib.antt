@@ -1,3 +1,4 @@
 pub mod Rows
+pub mod Walking
 pub mod Listings
 pub mod Heirs

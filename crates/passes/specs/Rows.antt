@@ -4,6 +4,8 @@ use Rattle.law.specs.Family.{Family, Part}
 use Rattle.bits.specs.Sets.{bit_row}
 use Rattle.shares.specs.Work.{parts_words}
 use Rattle.people.specs.Layout.{working}
+use Rattle.passes.specs.declared.Row.{Row}
+use Rattle.passes.specs.declared.Row.TheVariants.{Pieces, Order, Counts, Multiples}
 
 -- The set of heirs, and four rows with a word for each person: their pieces; the list of persons, each as one more than their number; for each person who is listed
 -- how many parts their line has; and the least number that these divide.
@@ -44,3 +46,22 @@ with_counts r xs = record { heirs = r.heirs; pieces = r.pieces; order = r.order;
 
 abbrev pub with_multiples : Rows → List ℕ → Rows
 with_multiples r xs = record { heirs = r.heirs; pieces = r.pieces; order = r.order; counts = r.counts; multiples = xs }
+
+-- how many rows lie before one of these, what it is, and the rows with another in its place
+abbrev pub row_number : Row → ℕ
+row_number Pieces = 0
+row_number Order = 1
+row_number Counts = 2
+row_number Multiples = 3
+
+abbrev pub row_of : Row → Rows → List ℕ
+row_of Pieces r = r.pieces
+row_of Order r = r.order
+row_of Counts r = r.counts
+row_of Multiples r = r.multiples
+
+abbrev pub with_row : Row → Rows → List ℕ → Rows
+with_row Pieces r xs = with_pieces r xs
+with_row Order r xs = with_order r xs
+with_row Counts r xs = with_counts r xs
+with_row Multiples r xs = with_multiples r xs

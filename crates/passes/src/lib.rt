@@ -2,47 +2,67 @@
 // with how many parts each line has and the least number that these divide; then pieces are handed down along the list.
 #![tactic(auto)]
 
-ghost use Rattle.std.specs.Prelude.{◌≡◌, ℕ, suc, ◌+◌, ◌*◌, ◌<◌, ◌≤◌, Bool, List, ◌∷◌, length, drop, if◌then◌else◌, sum, filter, nat_eq, slice_index, slice_set};
+ghost use Rattle.std.specs.Prelude.{◌≡◌, ℕ, suc, ◌+◌, ◌*◌, ◌<◌, ◌≤◌, Bool, List, ◌∷◌, length, drop, if◌then◌else◌, sum, filter, nat_eq, unwrap_or, IfSome, slice_index, slice_set};
+ghost use Rattle.std.specs.Iterator.{at_most};
 ghost use Rattle.law.specs.Family.{Family, Part as LawPart, children};
 ghost use Rattle.theory.specs.Living.{alive};
 ghost use Rattle.theory.specs.Multiples.{lcm};
 ghost use Rattle.children.specs.Links.{first_of};
 ghost use Rattle.people.specs.Layout.{limit_in, count_in, Roomy};
 ghost use Rattle.living.specs.Places.{Held};
+ghost use Rattle.shares.specs.Parts.{word_number};
 ghost use Rattle.amounts.specs.Passes.{few, word_or_zero, count_step, multiple_step, added_each, handed_on, handed_down};
 ghost use Rattle.amounts.specs.Lines.{divided_among};
 ghost use Rattle.amounts.specs.Statements.{Listing};
-ghost use Rattle.passes.specs.Rows.{Rows, Rowed, with_pieces};
+ghost use Rattle.passes.specs.Rows.{Rows, Rowed, row_of, row_number, with_row, with_pieces};
 ghost use Rattle.passes.specs.Listings.{order_row, counts_row, multiples_row, listed_rows, no_list, Ready, LineListed};
 ghost use Rattle.passes.specs.Heirs.{heirs_of, left_rows};
+ghost use Rattle.passes.specs.Walking.{Ahead, Stepped};
 
-// The most parts that an estate is divided into, and a number that stands for more.
-const MOST_PARTS: u32 = 4096;
+use shares::{HEIRS, MOST_PARTS, PIECES};
 
-const TOO_MANY: u32 = 4097;
+// A number of parts that stands for all that are more than an estate is divided into.
+const TOO_MANY: u32 = MOST_PARTS + 1;
 
-// How many words lie before the rows, and before the bits of heirs, beside the tables of persons and of links, which have eight words a person.
-const ROWS: usize = 8450;
-
-const HEIRS: usize = 8322;
-
-// Where the list lies in memory with this limit, behind the pieces; and where the numbers of parts and the multiples lie.
-fn order_at(limit: u32, index: u32) -> usize
-    ensures value { result ≡ 8450 + 9 * limit + index }
-{
-    ROWS + 9 * limit as usize + index as usize
+// A row of the work area with a word for each person: their pieces; the list of persons, each as one more than their number; and for each person who is listed
+// how many parts their line has, and the least number that these divide, 0 where it doesn't fit a word.
+#[derive(Clone, Copy)]
+enum Row {
+    Pieces,
+    Order,
+    Counts,
+    Multiples,
 }
 
-fn count_at(limit: u32, who: u32) -> usize
-    ensures value { result ≡ 8450 + 10 * limit + who }
-{
-    ROWS + 10 * limit as usize + who as usize
+impl Row {
+    // Where a word of this row lies in memory with this limit.
+    fn place(self, limit: u32, index: u32) -> usize
+        ensures value { result ≡ 8450 + (8 + row_number self) * limit + index }
+    {
+        descent::work_at(limit) + PIECES + self as usize * limit as usize + index as usize
+    }
 }
 
-fn multiple_at(limit: u32, who: u32) -> usize
-    ensures value { result ≡ 8450 + 11 * limit + who }
+// A word of a row.
+fn word_at(memory: &[u32], row: Row, index: u32) -> u32
+    requires room { Roomy memory.now }
+    requires within { index < limit_in memory.now }
+    ensures value { (n : ℕ) (f : Family) (ps : List LawPart) (rows : Rows) (spare rest : List ℕ) → Rowed memory.now n f ps rows spare rest → result ≡ slice_index (row_of row rows) index }
 {
-    ROWS + 11 * limit as usize + who as usize
+    memory[row.place(memory[0], index)]
+}
+
+// Writes a word of a row.
+fn put_word(memory: &mut [u32], row: Row, index: u32, word: u32)
+    requires room { Roomy memory.old }
+    requires within { index < limit_in memory.old }
+    ensures limit { limit_in memory.new ≡ limit_in memory.old }
+    ensures count { count_in memory.new ≡ count_in memory.old }
+    ensures left { (n : ℕ) (f : Family) (ps : List LawPart) (rows : Rows) (spare rest : List ℕ) → Rowed memory.old n f ps rows spare rest
+        → Rowed memory.new n f ps (with_row row rows (slice_set (row_of row rows) index word)) spare rest }
+{
+    let at = row.place(memory[0], index);
+    memory[at] = word;
 }
 
 // The link to the first of somebody's children, from a link on, whose line lives; 0 where there is none.
@@ -52,17 +72,8 @@ fn living_from(memory: &[u32], who: u32, link: u32) -> u32
     ensures value { (n : ℕ) (f : Family) (work rest : List ℕ) (i : ℕ) → Held memory.now n f (alive f) work rest → link ≡ first_of (drop i (children f who))
         → result ≡ first_of (filter (alive f) (drop i (children f who))) }
 {
-    let mut next = link;
-    for turn in 0..memory[1] {
-        let Some(child) = people::somebody(memory[0], next) else {
-            break;
-        };
-        if living::lives(memory, child) {
-            return next;
-        }
-        next = people::next_child(memory, who, child);
-    }
-    0
+    let mut left = people::Children::from_link(memory, who, link);
+    people::link_to(left.find(|child| living::lives(memory, *child)))
 }
 
 // The link to the first of the lines among which what comes to somebody is divided.
@@ -88,59 +99,121 @@ fn next_line(memory: &[u32], who: u32, child: u32) -> u32
     living_from(memory, who, people::next_child(memory, who, child))
 }
 
-// What a line comes to: how many parts, and the least number that all of them divide, 0 where it doesn't fit a word.
-#[derive(Clone, Copy)]
-pub struct Line {
-    pub parts: u32,
-    pub multiple: u32,
+// A walk over the lines among which what comes to somebody is divided: the link to the line that comes next, and how many turns it may still take.
+// It borrows no words, so that they may be written on the way.
+#[derive(Drop)]
+struct Walk {
+    who: u32,
+    link: u32,
+    turns: u32,
 }
 
-// The least common multiple, 0 where it doesn't fit a word.
-pub fn common_multiple(a: u32, b: u32) -> u32
-    ensures value { result ≡ word_or_zero (lcm a b) }
-{
-    match shares::multiple(a, b) {
-        Some(number) => number,
-        None => 0,
+impl Walk {
+    // Before the first of these lines. There are no more of them than persons.
+    fn new(memory: &[u32], who: u32) -> Walk
+        requires room { Roomy memory.now }
+        requires there { who < limit_in memory.now }
+        ensures who { result.who ≡ who }
+        ensures start { (n : ℕ) (f : Family) (work rest : List ℕ) → Held memory.now n f (alive f) work rest → Ahead f result (divided_among f who) }
+    {
+        Walk {
+            who,
+            link: first_line(memory, who),
+            turns: memory[1],
+        }
     }
+
+    // Goes on to the next of these lines.
+    fn next(&mut self, memory: &[u32]) -> Option<u32>
+        requires room { Roomy memory.now }
+        requires there { self.old.who < limit_in memory.now }
+        ensures step { Stepped memory.now self.old result self.new }
+    {
+        let child = people::somebody(memory[0], self.link)?;
+        self.turns = self.turns.checked_sub(1)?;
+        self.link = next_line(memory, self.who, child);
+        Some(child)
+    }
+}
+
+// The lines among which what comes to somebody is divided, one by one.
+#[derive(Drop)]
+struct Lines<'a> {
+    memory: &'a [u32],
+    walk: Walk,
+    ghost room: { Roomy memory.now },
+    ghost there: { walk.who < limit_in memory.now },
+}
+
+impl Iterator for Lines<'_> {
+    type Item = u32;
+
+    ghost next_gives = { λ s r t. (t.memory.now ≡ s.memory.now) × Stepped s.memory.now s.walk r t.walk };
+
+    ghost remaining = { λ s. at_most s.walk.turns };
+
+    fn next(&mut self) -> Option<u32> {
+        self.walk.next(self.memory)
+    }
+}
+
+// The lines among which what comes to somebody is divided: none for whoever lives, who has it themself.
+fn lines_below(memory: &[u32], who: u32) -> Lines<'_>
+    requires room { Roomy memory.now }
+    requires there { who < limit_in memory.now }
+    ensures words { result.memory.now ≡ memory.now }
+    ensures who { result.walk.who ≡ who }
+    ensures start { (n : ℕ) (f : Family) (work rest : List ℕ) → Held memory.now n f (alive f) work rest → Ahead f result.walk (divided_among f who) }
+{
+    Lines {
+        memory,
+        walk: Walk::new(memory, who),
+    }
+}
+
+// What a line comes to: how many parts, and the least number that all of them divide, None where it doesn't fit a word.
+#[derive(Clone, Copy, Debug, PartialEq, Eq)]
+pub struct Line {
+    pub parts: u32,
+    pub multiple: Option<u32>,
+}
+
+// The least common multiple of two numbers, None where one of them or it doesn't fit a word.
+pub fn common_multiple(a: Option<u32>, b: Option<u32>) -> Option<u32>
+    ensures value { result ≡ word_number (lcm (unwrap_or a 0) (unwrap_or b 0)) }
+{
+    shares::multiple(a?, b?)
 }
 
 // What two come to together.
 pub fn together(one: Line, other: Line) -> Line
     ensures parts { result.parts ≡ few (one.parts + other.parts) }
-    ensures multiple { result.multiple ≡ word_or_zero (lcm one.multiple other.multiple) }
+    ensures multiple { result.multiple ≡ word_number (lcm (unwrap_or one.multiple 0) (unwrap_or other.multiple 0)) }
 {
-    let sum = u64::from(one.parts) + u64::from(other.parts);
     Line {
-        parts: if sum > u64::from(MOST_PARTS) {
-            TOO_MANY
-        } else {
-            sum as u32
-        },
+        parts: one.parts.saturating_add(other.parts).min(TOO_MANY),
         multiple: common_multiple(one.multiple, other.multiple),
     }
 }
 
-// A product, 0 where it doesn't fit a word.
-pub fn product(a: u32, b: u32) -> u32
-    ensures value { result ≡ word_or_zero (a * b) }
+// So many times a number, None where that or the number doesn't fit a word.
+pub fn product(times: u32, number: Option<u32>) -> Option<u32>
+    ensures value { unwrap_or result 0 ≡ word_or_zero (times * unwrap_or number 0) }
 {
-    match a.checked_mul(b) {
-        Some(number) => number,
-        None => 0,
-    }
+    times.checked_mul(number?)
 }
 
-// What the line of somebody who is listed comes to.
+// What the line of somebody who is listed comes to. Whoever is not listed has no parts.
 pub fn entry(memory: &[u32], who: u32) -> Line
     requires room { Roomy memory.now }
     requires there { who < limit_in memory.now }
     ensures value { (n : ℕ) (f : Family) (ps : List LawPart) (rows : Rows) (spare rest : List ℕ) → Rowed memory.now n f ps rows spare rest
-        → (result.parts ≡ slice_index rows.counts who) × (result.multiple ≡ slice_index rows.multiples who) }
+        → (result.parts ≡ slice_index rows.counts who) × (unwrap_or result.multiple 0 ≡ slice_index rows.multiples who) }
 {
+    let multiple = word_at(memory, Row::Multiples, who);
     Line {
-        parts: memory[count_at(memory[0], who)],
-        multiple: memory[multiple_at(memory[0], who)],
+        parts: word_at(memory, Row::Counts, who),
+        multiple: (multiple != 0).then_some(multiple),
     }
 }
 
@@ -149,21 +222,16 @@ fn line_of(memory: &[u32], who: u32) -> Line
     requires room { Roomy memory.now }
     requires there { who < limit_in memory.now }
     ensures value { (n : ℕ) (f : Family) (ps : List LawPart) (rows : Rows) (spare rest : List ℕ) → Rowed memory.now n f ps rows spare rest
-        → (result.parts ≡ count_step (divided_among f who) rows.counts) × (result.multiple ≡ multiple_step (divided_among f who) rows.multiples) }
+        → (result.parts ≡ count_step (divided_among f who) rows.counts) × (unwrap_or result.multiple 0 ≡ multiple_step (divided_among f who) rows.multiples) }
 {
     let mut all = Line {
         parts: 0,
-        multiple: 1,
+        multiple: Some(1),
     };
     let mut lines = 0;
-    let mut link = first_line(memory, who);
-    for turn in 0..memory[1] {
-        let Some(child) = people::somebody(memory[0], link) else {
-            break;
-        };
+    for child in lines_below(memory, who) {
         all = together(all, entry(memory, child));
         lines += 1;
-        link = next_line(memory, who, child);
     }
     divided(lines, all)
 }
@@ -171,12 +239,12 @@ fn line_of(memory: &[u32], who: u32) -> Line
 // What a line comes to that is divided among so many, by what these come to; whoever has it themself has one part.
 fn divided(lines: u32, all: Line) -> Line
     ensures parts { result.parts ≡ (if nat_eq lines 0 then 1 else all.parts) }
-    ensures multiple { result.multiple ≡ (if nat_eq lines 0 then 1 else word_or_zero (lines * all.multiple)) }
+    ensures multiple { unwrap_or result.multiple 0 ≡ (if nat_eq lines 0 then 1 else word_or_zero (lines * unwrap_or all.multiple 0)) }
 {
     if lines == 0 {
         return Line {
             parts: 1,
-            multiple: 1,
+            multiple: Some(1),
         };
     }
     Line {
@@ -195,14 +263,13 @@ fn enter(memory: &mut [u32], who: u32, count: u32) -> u32
     ensures entered { (n : ℕ) (f : Family) (ps : List LawPart) (out spare rest : List ℕ) → Rowed memory.old n f ps (listed_rows n f out) spare rest → length out ≡ count → length out < n
         → (result ≡ suc (length out)) × Rowed memory.new n f ps (listed_rows n f (who ∷ out)) spare rest }
 {
-    let limit = memory[0];
-    if count >= limit {
+    if count >= memory[0] {
         return count;
     }
     let line = line_of(memory, who);
-    memory[order_at(limit, count)] = who + 1;
-    memory[count_at(limit, who)] = line.parts;
-    memory[multiple_at(limit, who)] = line.multiple;
+    put_word(memory, Row::Order, count, who + 1);
+    put_word(memory, Row::Counts, who, line.parts);
+    put_word(memory, Row::Multiples, who, line.multiple.unwrap_or(0));
     count + 1
 }
 
@@ -220,45 +287,18 @@ pub fn list(memory: &mut [u32], steps: u32, who: u32, count: u32) -> u32
     if steps == 0 {
         return count;
     }
-    if memory[count_at(memory[0], who)] != 0 {
+    if word_at(memory, Row::Counts, who) != 0 {
         return count;
     }
     let mut at = count;
-    let mut link = first_line(memory, who);
-    for turn in 0..memory[1] {
-        let Some(child) = people::somebody(memory[0], link) else {
-            break;
-        };
+    let mut lines = Walk::new(memory, who);
+    while let Some(child) = lines.next(memory) {
         at = list(memory, steps - 1, child, at);
-        link = next_line(memory, who, child);
     }
     enter(memory, who, at)
 }
 
-// Where somebody's pieces lie in memory with this limit, and where the bits of heirs do.
-fn pieces_at(limit: u32, who: u32) -> usize
-    ensures value { result ≡ 8450 + 8 * limit + who }
-{
-    ROWS + 8 * limit as usize + who as usize
-}
-
-fn heirs_at(limit: u32) -> usize
-    ensures value { result ≡ 8322 + 8 * limit }
-{
-    HEIRS + 8 * limit as usize
-}
-
-// A sum of pieces. All together are fewer than 2 to the 32nd.
-fn sum_of(a: u32, b: u32) -> u32
-    ensures value { a + b < 4294967296 → result ≡ a + b }
-{
-    match a.checked_add(b) {
-        Some(number) => number,
-        None => 0,
-    }
-}
-
-// Adds to somebody's pieces.
+// Adds to somebody's pieces. All together are fewer than 2 to the 32nd.
 pub fn add(memory: &mut [u32], who: u32, more: u32)
     requires room { Roomy memory.old }
     requires there { who < limit_in memory.old }
@@ -267,8 +307,8 @@ pub fn add(memory: &mut [u32], who: u32, more: u32)
     ensures added { (n : ℕ) (f : Family) (ps : List LawPart) (rows : Rows) (spare rest : List ℕ) → Rowed memory.old n f ps rows spare rest → slice_index rows.pieces who + more < 4294967296
         → Rowed memory.new n f ps (with_pieces rows (slice_set rows.pieces who (slice_index rows.pieces who + more))) spare rest }
 {
-    let at = pieces_at(memory[0], who);
-    memory[at] = sum_of(memory[at], more);
+    let pieces = word_at(memory, Row::Pieces, who);
+    put_word(memory, Row::Pieces, who, pieces.saturating_add(more));
 }
 
 // Adds to the pieces of each of the lines among which what comes to somebody is divided.
@@ -281,13 +321,9 @@ fn add_below(memory: &mut [u32], who: u32, each: u32)
         → sum (added_each (divided_among f who) each rows.pieces) < 4294967296
         → Rowed memory.new n f ps (with_pieces rows (added_each (divided_among f who) each rows.pieces)) spare rest }
 {
-    let mut link = first_line(memory, who);
-    for turn in 0..memory[1] {
-        let Some(child) = people::somebody(memory[0], link) else {
-            break;
-        };
+    let mut lines = Walk::new(memory, who);
+    while let Some(child) = lines.next(memory) {
         add(memory, child, each);
-        link = next_line(memory, who, child);
     }
 }
 
@@ -300,17 +336,24 @@ fn hand_on(memory: &mut [u32], who: u32)
     ensures handed { (n : ℕ) (f : Family) (ps : List LawPart) (rows : Rows) (spare rest : List ℕ) → Rowed memory.old n f ps rows spare rest → sum rows.pieces < 4294967296
         → Rowed memory.new n f ps (with_pieces rows (handed_on (divided_among f who) who rows.pieces)) spare rest }
 {
-    if people::read(memory, who).lives {
-        return;
-    }
-    let lines = descent::living_children(memory, who);
+    let lines = lines_below(memory, who).count() as u32;
     if lines == 0 {
         return;
     }
-    let at = pieces_at(memory[0], who);
-    let each = memory[at] / lines;
-    memory[at] = 0;
+    let each = word_at(memory, Row::Pieces, who) / lines;
+    put_word(memory, Row::Pieces, who, 0);
     add_below(memory, who, each);
+}
+
+// Who stands at a place of the list.
+fn listed_at(memory: &[u32], index: u32) -> Option<u32>
+    requires room { Roomy memory.now }
+    requires within { index < limit_in memory.now }
+    ensures there { IfSome result (λ q. q < limit_in memory.now) }
+    ensures value { (n : ℕ) (f : Family) (ps : List LawPart) (rows : Rows) (spare rest : List ℕ) (q : ℕ) → Rowed memory.now n f ps rows spare rest → slice_index rows.order index ≡ suc q → q < n
+        → result ≡ Some q }
+{
+    people::somebody(memory[0], word_at(memory, Row::Order, index))
 }
 
 // Hands pieces down along a list of so many, parents before children.
@@ -323,13 +366,18 @@ pub fn hand_down(memory: &mut [u32], count: u32)
         → Listing f os → length os ≡ count → sum rows.pieces < 4294967296
         → Rowed memory.new n f ps (with_pieces rows (handed_down (divided_among f) os rows.pieces)) spare rest }
 {
-    for turn in 0..count {
-        let link = memory[order_at(memory[0], count - 1 - turn)];
-        let Some(who) = people::somebody(memory[0], link) else {
-            break;
-        };
-        hand_on(memory, who);
+    for place in (0..count).rev() {
+        if let Some(who) = listed_at(memory, place) {
+            hand_on(memory, who);
+        }
     }
+}
+
+// Where the bits of heirs lie in memory with this limit.
+fn heirs_at(limit: u32) -> usize
+    ensures value { result ≡ 8322 + 8 * limit }
+{
+    descent::work_at(limit) + HEIRS
 }
 
 // Takes somebody from a place of the list, and makes them an heir if they have pieces.
@@ -342,13 +390,13 @@ fn leave(memory: &mut [u32], index: u32, who: u32)
     ensures left { (n : ℕ) (f : Family) (ps : List LawPart) (rows : Rows) (spare rest : List ℕ) → Rowed memory.old n f ps rows spare rest
         → Rowed memory.new n f ps (left_rows rows index who) spare rest }
 {
-    let limit = memory[0];
-    if memory[pieces_at(limit, who)] != 0 {
-        bits::insert(memory, heirs_at(limit), who);
+    if word_at(memory, Row::Pieces, who) != 0 {
+        let at = heirs_at(memory[0]);
+        bits::insert(memory, at, who);
     }
-    memory[order_at(limit, index)] = 0;
-    memory[count_at(limit, who)] = 0;
-    memory[multiple_at(limit, who)] = 0;
+    put_word(memory, Row::Order, index, 0);
+    put_word(memory, Row::Counts, who, 0);
+    put_word(memory, Row::Multiples, who, 0);
 }
 
 // Takes all of a list of so many from it, with what their lines come to, and makes heirs of those who have pieces.
@@ -361,12 +409,9 @@ pub fn unlist(memory: &mut [u32], count: u32)
         → Rowed memory.old n f ps (record { heirs = heirs; pieces = pieces; order = order_row n os; counts = counts_row n f os; multiples = multiples_row n f os }) spare rest
         → Listing f os → length os ≡ count → Rowed memory.new n f ps (no_list n (heirs_of pieces os heirs) pieces) spare rest }
 {
-    for turn in 0..count {
-        let index = count - 1 - turn;
-        let link = memory[order_at(memory[0], index)];
-        let Some(who) = people::somebody(memory[0], link) else {
-            break;
-        };
-        leave(memory, index, who);
+    for index in (0..count).rev() {
+        if let Some(who) = listed_at(memory, index) {
+            leave(memory, index, who);
+        }
     }
 }

@@ -1,5 +1,5 @@
 -- Laws of a register's words: what is read from them, and what a write leaves. Assumes nothing.
-use Rattle.std.proofs.Common.{◌≡◌, ℕ, zero, suc, ◌+◌, ◌-◌, ◌*◌, ◌<◌, ◌≤◌, Bool, true, false, cond, not, eqb, List, [], ◌∷◌, ◌++◌, length, get_or, take, drop, set, replicate, sym, refl, ap, ◌∙◌, ⊎_elim, arith}
+use Rattle.std.proofs.Common.{◌≡◌, ℕ, zero, suc, ◌+◌, ◌*◌, ◌<◌, ◌≤◌, Bool, true, false, cond, not, eqb, List, [], ◌∷◌, ◌++◌, length, get_or, take, drop, set, replicate, sym, refl, ap, ◌∙◌, ⊎_elim, add-one, arith}
 use borrow.Rule.Slice.PartMut.{put_mid}
 use Rattle.std.proofs.lemmas.List.FromFn.{length-map-range_with_len, get_or-map-range_with_len}
 use Rattle.std.proofs.lemmas.List.{ext_get_or, length-append, length-replicate, length-set, length_push, drop_at, append_assoc, get_or_past, get_or-set_same, get_or-set_other, get_or_append_left, get_or_push, replicate-append-replicate}
@@ -13,9 +13,9 @@ use Rattle.rows.proofs.Tables.{length-table, get_or-table, table_written, table_
 use Rattle.bits.specs.Sets.{bit_row, no_member}
 use Rattle.bits.proofs.Sets.{length-bit_row, bit_row_same, bit_row_none}
 use Rattle.theory.specs.Living.{alive}
-use Rattle.children.specs.Links.{first_of, last_of, behind, link_row}
+use Rattle.children.specs.Links.{first_of, last_of, behind, link_row, is_mother, next_place}
 use Rattle.children.proofs.Links.{links_set, links_wide}
-use Rattle.people.specs.Layout.{words_asked, work_words, person_words, person_at, person_row, laid, working, image, limit_in, count_in, family_in, rest_in}
+use Rattle.people.specs.Layout.{words_asked, work_words, person_words, person_at, person_row, laid, working, image, limit_in, count_in, links_in, next_link, family_in, rest_in}
 
 -- the family that words hold
 pub length-family : (ws : List ℕ) → length (family_in ws) ≡ count_in ws
@@ -250,23 +250,34 @@ image_none n ws room =
     ∙ (λ i. persons i ++ (zeros_split (4 * n) (128 + w) rest ∙ ap (λ r. replicate (4 * n) 0 ++ r) (zeros_split 128 w rest)) i)
     ∙ (λ i. table n (person_row []) ++ (links i ++ (bits i ++ (replicate w 0 ++ rest)))))
 
--- the links' part of memory, as the code cuts it out, and with other links in it
+-- the links' part of memory, and with other links in it
 pub links_part :
     (ws : List ℕ) (n k : ℕ) (g f : Family) (s : ℕ → Bool) (work rest : List ℕ) → ws ≡ laid n k (person_row g) (link_row f) s work rest →
-    take (2 + 4 * n + 4 * n - (2 + 4 * n)) (drop (2 + 4 * n) ws) ≡ table n (link_row f)
+    take (4 * n) (drop (2 + 4 * n) ws) ≡ table n (link_row f)
 links_part ws n k g f s work rest e =
-    let long : 2 + 4 * n + 4 * n - (2 + 4 * n) ≡ 4 * n = omega arith in
-    (λ i. take (long i) (drop (2 + 4 * n) (e i))) ∙ laid_links n k (person_row g) (link_row f) s work rest (persons_wide g) (links_wide f)
+    ap (λ u. take (4 * n) (drop (2 + 4 * n) u)) e ∙ laid_links n k (person_row g) (link_row f) s work rest (persons_wide g) (links_wide f)
+
+pub links_said :
+    (ws : List ℕ) (n k : ℕ) (f : Family) (s : ℕ → Bool) (work rest : List ℕ) → ws ≡ laid n k (person_row f) (link_row f) s work rest → links_in ws ≡ table n (link_row f)
+links_said ws n k f s work rest e =
+    ap (λ m. take (4 * m) (drop (2 + 4 * m) ws)) (limit_laid ws n k (person_row f) (link_row f) s work rest e) ∙ links_part ws n k f f s work rest e
 
 pub links_put :
     (ws links : List ℕ) (n k : ℕ) (g f : Family) (s : ℕ → Bool) (work rest : List ℕ) → ws ≡ laid n k (person_row g) (link_row f) s work rest → links ≡ table n (link_row g) →
-    put_mid (2 + 4 * n) (2 + 4 * n + 4 * n - (2 + 4 * n)) ws links ≡ laid n k (person_row g) (link_row g) s work rest
+    put_mid (2 + 4 * n) (4 * n) ws links ≡ laid n k (person_row g) (link_row g) s work rest
 links_put ws links n k g f s work rest e new =
-    let long : 2 + 4 * n + 4 * n - (2 + 4 * n) ≡ 4 * n = omega arith in
-    (λ i. put_mid (2 + 4 * n) (long i) (e i) (new i)) ∙ laid_relinked n k (person_row g) (link_row f) s work rest (link_row g) (persons_wide g) (links_wide f)
+    (λ i. put_mid (2 + 4 * n) (4 * n) (e i) (new i)) ∙ laid_relinked n k (person_row g) (link_row f) s work rest (link_row g) (persons_wide g) (links_wide f)
 
 -- a person of laid out words, at any number that the limit allows
 pub person_laid :
     (ws : List ℕ) (n k : ℕ) (f : Family) (links : ℕ → List ℕ) (s : ℕ → Bool) (work rest : List ℕ) (p : ℕ) → ws ≡ laid n k (person_row f) links s work rest → p < n → person_at ws (2 + 4 * p) ≡ person f p
 person_laid ws n k f links s work rest p e h =
     ap (λ u. person_at u (2 + 4 * p)) e ∙ laid_person n k (person_row f) links s work rest p (person f p) (persons_wide f) h refl
+
+-- the link from a child to the next, as it lies in the words of a family
+pub next_said :
+    (ws : List ℕ) (n k : ℕ) (f : Family) (s : ℕ → Bool) (work rest : List ℕ) (parent child : ℕ) → ws ≡ laid n k (person_row f) (link_row f) s work rest → child < n →
+    next_link ws parent child ≡ get_or (table n (link_row f)) (next_place child (is_mother f parent child)) 0
+next_said ws n k f s work rest parent child e h =
+    let mother = ap (λ (q : Person). q.mother) (person_laid ws n k f (link_row f) s work rest child e h) in
+    λ i. get_or (links_said ws n k f s work rest e i) (next_place child (eqb (mother i) (add-one parent i))) 0

@@ -1,3 +1,4 @@
 pub mod Layouts
 pub mod Links
 pub mod Valids
+pub mod Walks

@@ -1,11 +1,11 @@
 -- How a register lies in lent words. Assumes nothing: these are definitions.
-use Rattle.std.specs.Prelude.{◌≡◌, ℕ, ◌+◌, ◌-◌, ◌*◌, ◌<◌, ◌≤◌, Bool, true, cond, not, ◌&&◌, ◌||◌, List, [], ◌∷◌, ◌++◌, map, length, drop, replicate, ◌==◌, nat_le, nat_lt, slice_index}
+use Rattle.std.specs.Prelude.{◌≡◌, ℕ, ◌+◌, ◌-◌, ◌*◌, ◌<◌, ◌≤◌, Bool, true, cond, not, ◌&&◌, ◌||◌, List, [], ◌∷◌, ◌++◌, map, length, take, drop, replicate, ◌==◌, nat_le, nat_lt, slice_index}
 use Rattle.std.specs.List.{range_with_len}
 use Rattle.law.specs.Family.{Person, Family, person}
 use Rattle.rows.specs.Tables.{table}
 use Rattle.bits.specs.Sets.{bit_row}
 use Rattle.theory.specs.Living.{alive}
-use Rattle.children.specs.Links.{link_row}
+use Rattle.children.specs.Links.{link_row, next_place}
 
 -- how many words a register for n persons asks for: 64 bytes for each, and 98,304 more
 abbrev pub words_asked : ℕ → ℕ
@@ -45,6 +45,14 @@ limit_in ws = slice_index ws 0
 
 abbrev pub count_in : List ℕ → ℕ
 count_in ws = slice_index ws 1
+
+-- the words of the links
+abbrev pub links_in : List ℕ → List ℕ
+links_in ws = take (4 * limit_in ws) (drop (2 + 4 * limit_in ws) ws)
+
+-- the link from a parent's child to the next
+abbrev pub next_link : List ℕ → ℕ → ℕ → ℕ
+next_link ws parent child = slice_index (links_in ws) (next_place child ((person_at ws (2 + 4 * child)).mother == parent + 1))
 
 unfoldable pub family_in : List ℕ → Family
 family_in ws = map (λ p. person_at ws (2 + 4 * p)) (range_with_len 0 (count_in ws))

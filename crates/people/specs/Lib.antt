@@ -1,2 +1,4 @@
 pub mod Layout
 pub mod Persons
+pub mod Walking
+pub mod Walks

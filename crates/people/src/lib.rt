@@ -2,21 +2,67 @@
 // a table of the links to their children, four words each, the set of those whose lines live as bits, and words to work in.
 #![tactic(auto)]
 
-ghost use Rattle.std.specs.Prelude.{◌≡◌, ℕ, suc, ◌+◌, ◌*◌, ◌<◌, ◌≤◌, Bool, true, false, ◌⊎◌, List, [], ◌∷◌, ◌++◌, length, if◌then◌else◌, MatchOption, slice_index};
+ghost use Rattle.std.specs.Prelude.{◌≡◌, ℕ, suc, ◌+◌, ◌*◌, ◌<◌, ◌≤◌, Bool, true, false, ◌⊎◌, List, [], ◌∷◌, ◌++◌, length, IfSome, MatchOption, slice_index};
 ghost use Rattle.law.specs.Family.{Family, person, children};
 ghost use Rattle.law.specs.Calls.{newborn as law_newborn};
 ghost use Rattle.rows.specs.Written.{written};
 ghost use Rattle.rows.specs.Tables.{table};
 ghost use Rattle.children.specs.Links.{first_of, link_row, is_mother, next_place, filed, OfLast, TwoParents};
-ghost use Rattle.people.specs.Layout.{person_words, person_at, person_row, laid, limit_in, count_in, family_in, parents_fit, Roomy};
-ghost use Rattle.people.specs.Persons.{law_person};
+ghost use Rattle.people.specs.Layout.{person_words, person_at, person_row, laid, limit_in, count_in, links_in, next_link, family_in, words_asked, parents_fit, Roomy};
+ghost use Rattle.people.specs.Persons.{law_person, link_of};
 
-// The words before the table of persons, those of one person, and those of a person's links.
+mod walk;
+
+pub use walk::Children;
+
+// How many persons a register may have room for.
+pub const MOST_PERSONS: u32 = 4096;
+
+// The words before the table of persons, those of one person, those of the set of living lines, and those that a register asks for: for each person and more.
 const HEADER: usize = 2;
 
 const PERSON: usize = 4;
 
-const LINKS: usize = 4;
+const MARKS: usize = MOST_PERSONS as usize / 32;
+
+const WORDS_EACH: usize = 16;
+
+const WORDS_MORE: usize = 24576;
+
+// How many words a register with this limit asks for.
+pub fn words_asked(limit: u32) -> usize
+    ensures value { result ≡ words_asked limit }
+{
+    WORDS_MORE + WORDS_EACH * limit as usize
+}
+
+// Where the words of this person begin.
+pub fn row_at(who: u32) -> usize
+    ensures value { result ≡ 2 + 4 * who }
+{
+    HEADER + PERSON * who as usize
+}
+
+// Where the links begin in memory with this limit: behind the last of the persons.
+pub fn links_at(limit: u32) -> usize
+    ensures value { result ≡ 2 + 4 * limit }
+{
+    row_at(limit)
+}
+
+// Where the set of those whose lines live begins.
+pub fn marks_at(limit: u32) -> usize
+    ensures value { result ≡ 2 + 8 * limit }
+{
+    links_at(limit) + children::ROW * limit as usize
+}
+
+// Where the words to work in begin.
+pub fn work_at(limit: u32) -> usize
+    ensures value { result ≡ 130 + 8 * limit }
+{
+    marks_at(limit) + MARKS
+}
 
 // One person, by value: mother, father and spouse are 0 where there is none, else one more than a number.
 #[derive(Clone, Copy)]
@@ -39,19 +85,13 @@ pub fn read(memory: &[u32], who: u32) -> Person
     requires room { 6 + 4 * who ≤ length memory.now }
     ensures value { law_person result ≡ person_at memory.now (2 + 4 * who) }
 {
-    let at = HEADER + PERSON * who as usize;
+    let at = row_at(who);
     Person {
         mother: memory[at],
         father: memory[at + 1],
         lives: memory[at + 2] != 0,
         spouse: memory[at + 3],
     }
-}
-
-fn bit(b: bool) -> u32
-    ensures value { result ≡ (if b then 1 else 0) }
-{
-    if b { 1 } else { 0 }
 }
 
 // Writes the person with this number.
@@ -64,10 +104,10 @@ pub fn put(memory: &mut [u32], who: u32, someone: Person)
     let words = [
         someone.mother,
         someone.father,
-        bit(someone.lives),
+        u32::from(someone.lives),
         someone.spouse,
     ];
-    rows::put(memory, HEADER + PERSON * who as usize, &words);
+    rows::put(memory, row_at(who), &words);
 }
 
 // The person with this number, if there is one.
@@ -75,39 +115,50 @@ pub fn find(memory: &[u32], who: u32) -> Option<Person>
     requires room { Roomy memory.now }
     ensures cases { MatchOption result (length (family_in memory.now) ≤ who) (λ e. (who < length (family_in memory.now)) × (law_person e ≡ person (family_in memory.now) who)) }
 {
-    if who >= memory[1] {
-        return None;
-    }
-    Some(read(memory, who))
+    (who < memory[1]).then(|| read(memory, who))
+}
+
+// Whether the person with this number may have these parents: each unknown or with a smaller number, and not the same.
+pub fn parents_fit(number: u32, mother: u32, father: u32) -> bool
+    ensures value { result ≡ parents_fit number mother father }
+{
+    mother <= number && (father <= number && (mother == 0 || mother != father))
 }
 
 // Somebody born to these parents, if they may have a child with this number.
 pub fn newborn(number: u32, mother: u32, father: u32) -> Option<Person>
     ensures cases { MatchOption result (parents_fit number mother father ≡ false) (λ e. (parents_fit number mother father ≡ true) × (law_person e ≡ law_newborn mother father)) }
 {
-    if mother > number || father > number {
-        return None;
-    }
-    if mother != 0 && mother == father {
-        return None;
-    }
-    Some(Person {
+    let child = Person {
         mother,
         father,
         lives: true,
         spouse: 0,
-    })
+    };
+    parents_fit(number, mother, father).then_some(child)
 }
 
 // The number of somebody who is given as 0 or one more than it, if the limit allows it.
 pub fn somebody(limit: u32, link: u32) -> Option<u32>
     ensures cases { MatchOption result ((link ≡ 0) ⊎ (limit < link)) (λ p. (link ≡ suc p) × (p < limit)) }
 {
-    if link == 0 || link > limit {
-        None
-    } else {
-        Some(link - 1)
-    }
+    link.checked_sub(1).filter(|who| *who < limit)
+}
+
+// The link to somebody: 0 where there is nobody, else one more than the number.
+pub fn link_to(who: Option<u32>) -> u32
+    requires number { IfSome who (λ p. p < 4294967295) }
+    ensures value { result ≡ link_of who }
+{
+    who.map_or(0, |number| number + 1)
+}
+
+// The words of the links.
+fn link_words(memory: &[u32]) -> &[u32]
+    requires room { Roomy memory.now }
+    ensures value { result.now ≡ links_in memory.now }
+{
+    &memory[links_at(memory[0])..marks_at(memory[0])]
 }
 
 // The link to somebody's first child.
@@ -116,9 +167,7 @@ pub fn first_child(memory: &[u32], who: u32) -> u32
     requires there { who < limit_in memory.now }
     ensures value { (n k : ℕ) (f : Family) (s : ℕ → Bool) (work rest : List ℕ) → memory.now ≡ laid n k (person_row f) (link_row f) s work rest → result ≡ first_of (children f who) }
 {
-    let at = HEADER + PERSON * memory[0] as usize;
-    let end = at + LINKS * memory[0] as usize;
-    children::first(&memory[at..end], who)
+    children::first(link_words(memory), who)
 }
 
 // The link from somebody's child to the next.
@@ -126,12 +175,11 @@ pub fn next_child(memory: &[u32], parent: u32, child: u32) -> u32
     requires room { Roomy memory.now }
     requires there { child < limit_in memory.now }
     requires number { parent < 4294967295 }
+    ensures link { result ≡ next_link memory.now parent child }
     ensures value { (n k : ℕ) (f : Family) (s : ℕ → Bool) (work rest : List ℕ) → memory.now ≡ laid n k (person_row f) (link_row f) s work rest → result ≡ slice_index (table n (link_row f)) (next_place child (is_mother f parent child)) }
 {
-    let at = HEADER + PERSON * memory[0] as usize;
-    let end = at + LINKS * memory[0] as usize;
     let by_mother = read(memory, child).mother == parent + 1;
-    children::next(&memory[at..end], child, by_mother)
+    children::next(link_words(memory), child, by_mother)
 }
 
 // Whether a parent, 0 or one more than a number, is the mother of their last child so far.
@@ -140,16 +188,13 @@ fn mother_of_last(memory: &[u32], parent: u32) -> bool
     requires there { parent ≤ limit_in memory.now }
     ensures value { (n k : ℕ) (f : Family) (s : ℕ → Bool) (work rest : List ℕ) → memory.now ≡ laid n k (person_row f) (link_row f) s work rest → length f ≤ n → OfLast f parent result }
 {
-    if parent == 0 {
+    let Some(number) = somebody(memory[0], parent) else {
         return false;
-    }
-    let at = HEADER + PERSON * memory[0] as usize;
-    let end = at + LINKS * memory[0] as usize;
-    let last = children::last(&memory[at..end], parent - 1);
-    if last == 0 || last > memory[0] {
+    };
+    let Some(last) = somebody(memory[0], children::last(link_words(memory), number)) else {
         return false;
-    }
-    read(memory, last - 1).mother == parent
+    };
+    read(memory, last).mother == parent
 }
 
 // Files a child under a parent who is known.
@@ -158,8 +203,8 @@ fn file_under(links: &mut [u32], child: u32, parent: Parent)
     requires number { child < 4294967295 }
     ensures left { links.new ≡ filed links.old parent.link child parent.of_last }
 {
-    if parent.link != 0 {
-        children::append(links, parent.link - 1, child, parent.of_last);
+    if let Some(number) = parent.link.checked_sub(1) {
+        children::append(links, number, child, parent.of_last);
     }
 }
 
@@ -187,8 +232,8 @@ pub fn add(memory: &mut [u32], child: Person)
         → memory.new ≡ laid n (length f + 1) (person_row (f ++ (law_person child ∷ []))) (link_row (f ++ (law_person child ∷ []))) s work rest }
 {
     let number = memory[1];
-    let at = HEADER + PERSON * memory[0] as usize;
-    let end = at + LINKS * memory[0] as usize;
+    let at = links_at(memory[0]);
+    let end = marks_at(memory[0]);
     let mother = Parent {
         link: child.mother,
         of_last: mother_of_last(memory, child.mother),

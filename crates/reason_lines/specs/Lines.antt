@@ -1,13 +1,16 @@
 -- The lines that say why somebody has a share. Assumes nothing: these are definitions.
-use Rattle.std.specs.Prelude.{ℕ, List, [], ◌∷◌, ◌++◌, map, vec_items, codes, decimal, slice_index_or}
+use Rattle.std.specs.Prelude.{ℕ, List, [], ◌∷◌, ◌++◌, map, vec_items, codes, decimal, slice_index_or, Ok, Err, Result}
 use Rattle.std.specs.Borrow.{Bor}
 use Rattle.std.specs.List.{flat_map}
 use Rattle.kinship.specs.declared.Cause.{Cause}
-use Rattle.kinship.specs.declared.Cause.TheVariants.{IsDecedent, NotThere, Dead, NearerOrder, LivingForebear, NotOfFamily}
+use Rattle.kinship.specs.Causes.{cause_words}
 use Rattle.why.specs.Explained.{LinePart, explanations}
+pub use Rattle.why.specs.Explained.{fraction_text}
 use Rattle.why.specs.declared.Fraction.{Fraction}
 use Rattle.why.specs.declared.Answer.{Answer}
-use Rattle.why.specs.declared.Answer.TheVariants as answer
+use Rattle.why.specs.declared.Answer.TheVariants.{Heir, NoShare}
+use Rattle.reasons.specs.declared.Refusal.{Refusal}
+use Rattle.reasons.specs.declared.Refusal.TheVariants.{NotThere, BeyondLimit, NoMemory}
 
 -- Names, by number, as bytes. Who has none is written by their number.
 abbrev pub names_of : List (Bor (List ℕ)) → List (List ℕ)
@@ -15,9 +18,6 @@ names_of ns = map (λ x. x.now) ns
 
 abbrev pub person_text : List (List ℕ) → ℕ → List ℕ
 person_text ns w = slice_index_or ns w (decimal w)
-
-abbrev pub fraction_text : Fraction → List ℕ
-fraction_text x = decimal x.up ++ (codes "/" ++ decimal x.down)
 
 -- the persons of a line; a spouse's part came by nobody's
 abbrev pub more_persons : List (List ℕ) → List ℕ → List ℕ
@@ -36,16 +36,20 @@ abbrev pub reasons_text : List (List ℕ) → List LinePart → Fraction → Lis
 reasons_text ns xs sum = flat_map (part_line ns) xs ++ (fraction_text sum ++ (codes " in all" ++ (10 ∷ [])))
 
 abbrev pub cause_text : Cause → List ℕ
-cause_text IsDecedent = codes "no share: the decedent" ++ (10 ∷ [])
-cause_text NotThere = codes "no share: not there" ++ (10 ∷ [])
-cause_text Dead = codes "no share: dead" ++ (10 ∷ [])
-cause_text NearerOrder = codes "no share: a nearer order inherits" ++ (10 ∷ [])
-cause_text LivingForebear = codes "no share: a living forebear stands before them" ++ (10 ∷ [])
-cause_text NotOfFamily = codes "no share: not of the family" ++ (10 ∷ [])
+cause_text c = codes "no share: " ++ (cause_words c ++ (10 ∷ []))
+
+-- the reasons for a share, or the cause why there is none
+abbrev pub share_lines : List (List ℕ) → Answer → List ℕ
+share_lines ns (Heir r) = reasons_text ns (explanations (vec_items r.parts)) r.sum
+share_lines ns (NoShare c) = cause_text c
+
+-- The refusal of an estate. Lack of memory has no line.
+abbrev pub refusal_line : Refusal → List ℕ
+refusal_line NotThere = codes "refused 4 at 0" ++ (10 ∷ [])
+refusal_line BeyondLimit = codes "refused 6 at 0" ++ (10 ∷ [])
+refusal_line NoMemory = []
 
 -- An answer: the refusal of the estate, the reasons, or the cause.
-abbrev pub answer_lines : List (List ℕ) → Answer → List ℕ
-answer_lines ns answer.NotThere = codes "refused 4 at 0" ++ (10 ∷ [])
-answer_lines ns answer.BeyondLimit = codes "refused 6 at 0" ++ (10 ∷ [])
-answer_lines ns (answer.Heir r) = reasons_text ns (explanations (vec_items r.parts)) r.sum
-answer_lines ns (answer.NoShare c) = cause_text c
+abbrev pub answer_lines : List (List ℕ) → Result Answer Refusal → List ℕ
+answer_lines ns (Ok a) = share_lines ns a
+answer_lines ns (Err r) = refusal_line r

@@ -1,133 +1,133 @@
 // The lines that say why somebody has a share of an estate, by names or by numbers.
 #![tactic(auto)]
 
-ghost use Rattle.std.specs.Prelude.{◌≡◌, ◌++◌, string_bytes, OnOk};
+ghost use Rattle.std.specs.Prelude.{◌≡◌, ◌++◌, string_bytes, OnOk, IsOkUnless, Some, Err, Result};
 ghost use Rattle.std.specs.List.{flat_map};
 ghost use Rattle.theory.specs.Families.{WellFormed};
 ghost use Rattle.ways.specs.Rows.{family_of};
 ghost use Rattle.why.specs.Answers.{AnswerRight};
 ghost use Rattle.why.specs.Explained.{explanation, explanations};
-ghost use Rattle.reason_lines.specs.Lines.{names_of, person_text, fraction_text, more_persons, line_text, part_line, reasons_text, cause_text, answer_lines};
+ghost use Rattle.reason_lines.specs.Lines.{names_of, person_text, line_text, part_line, share_lines, refusal_line, answer_lines};
 
-use kinship::Cause;
 use people::Person;
-use std::alloc::{AllocError, Global};
-use why::{Answer, Explanation, Fraction, Reasons};
+use reasons::Refusal;
+use std::alloc::AllocError;
+use std::fmt;
+use why::{Answer, Explanation, Reasons};
 
-// Appends somebody: the name, or the number of who has none.
-pub fn put_person(text: &mut String, names: &[&str], who: usize) -> Result<(), AllocError>
-    ensures lines { OnOk result (string_bytes text.new ≡ string_bytes text.old ++ person_text (names_of names.now) who) }
-{
-    if who < names.len() {
-        text.push_str(names[who])?;
-        return Ok(());
-    }
-    let number = format!(in *text.allocator(); "{who}")?;
-    text.push_str(number.as_str())?;
-    Ok(())
+// Somebody among persons with names: by name, or by number who has none.
+#[derive(Clone, Copy)]
+pub struct Named<'n> {
+    pub names: &'n [&'n str],
+    pub who: usize,
 }
 
-// Appends some more persons of a line.
-fn put_more(text: &mut String, names: &[&str], persons: &[usize]) -> Result<(), AllocError>
-    ensures lines { OnOk result (string_bytes text.new ≡ string_bytes text.old ++ more_persons (names_of names.now) persons.now) }
-{
-    for who in persons {
-        text.push_str(", ")?;
-        put_person(text, names, *who)?;
-    }
-    Ok(())
-}
+impl fmt::Display for Named<'_> {
+    ghost output = { λ x. Some (person_text (names_of x.names.now) x.who) };
 
-// Appends how a part came: as spouse, or by the persons of a line.
-fn put_line(text: &mut String, names: &[&str], line: &[usize]) -> Result<(), AllocError>
-    ensures lines { OnOk result (string_bytes text.new ≡ string_bytes text.old ++ line_text (names_of names.now) line.now) }
-{
-    if line.len() == 0 {
-        text.push_str(" as spouse")?;
-        return Ok(());
-    }
-    text.push_str(" by ")?;
-    put_person(text, names, line[0])?;
-    put_more(text, names, &line[1..])?;
-    Ok(())
-}
-
-// Appends a fraction.
-pub fn put_fraction(text: &mut String, fraction: Fraction) -> Result<(), AllocError>
-    ensures lines { OnOk result (string_bytes text.new ≡ string_bytes text.old ++ fraction_text fraction) }
-{
-    let Fraction { up, down } = fraction;
-    let shown = format!(in *text.allocator(); "{up}/{down}")?;
-    text.push_str(shown.as_str())
-}
-
-// Appends the line of a part.
-pub fn put_part(text: &mut String, names: &[&str], part: &Explanation) -> Result<(), AllocError>
-    ensures lines { OnOk result (string_bytes text.new ≡ string_bytes text.old ++ part_line (names_of names.now) (explanation part.now)) }
-{
-    put_fraction(text, part.part)?;
-    put_line(text, names, part.line.as_slice())?;
-    text.push_str("\n")?;
-    Ok(())
-}
-
-// Appends the lines of some parts.
-fn put_parts(text: &mut String, names: &[&str], parts: &[Explanation]) -> Result<(), AllocError>
-    ensures lines { OnOk result (string_bytes text.new ≡ string_bytes text.old ++ flat_map (part_line (names_of names.now)) (explanations parts.now)) }
-{
-    for index in 0..parts.len() {
-        put_part(text, names, &parts[index])?;
-    }
-    Ok(())
-}
-
-// Appends the lines of all parts of an heir, and of the sum.
-fn put_reasons(text: &mut String, names: &[&str], reasons: &Reasons) -> Result<(), AllocError>
-    ensures lines { OnOk result (string_bytes text.new ≡ string_bytes text.old ++ reasons_text (names_of names.now) (explanations reasons.now.parts.items) reasons.now.sum) }
-{
-    put_parts(text, names, reasons.parts.as_slice())?;
-    put_fraction(text, reasons.sum)?;
-    text.push_str(" in all\n")?;
-    Ok(())
-}
-
-// The line of a cause.
-fn cause_line(cause: Cause) -> &'static str
-    ensures value { result.now ≡ cause_text cause }
-{
-    match cause {
-        Cause::IsDecedent => "no share: the decedent\n",
-        Cause::NotThere => "no share: not there\n",
-        Cause::Dead => "no share: dead\n",
-        Cause::NearerOrder => "no share: a nearer order inherits\n",
-        Cause::LivingForebear => "no share: a living forebear stands before them\n",
-        Cause::NotOfFamily => "no share: not of the family\n",
+    fn fmt<W: fmt::Write>(&self, f: &mut fmt::Formatter<W>) -> fmt::Result {
+        let Named { names, who } = *self;
+        match names.get(who) {
+            Some(name) => f.write_str(name),
+            None => write!(f, "{who}"),
+        }
     }
 }
 
-// Appends the lines of an answer to the question why.
+// How a part came: as spouse, or by the persons of a line.
+#[derive(Clone, Copy)]
+struct Line<'n> {
+    names: &'n [&'n str],
+    persons: &'n [usize],
+}
+
+impl fmt::Display for Line<'_> {
+    ghost output = { λ x. Some (line_text (names_of x.names.now) x.persons.now) };
+
+    fn fmt<W: fmt::Write>(&self, f: &mut fmt::Formatter<W>) -> fmt::Result {
+        let Line { names, persons } = *self;
+        let Some((first, more)) = persons.split_first() else {
+            return f.write_str(" as spouse");
+        };
+        write!(f, " by {}", Named { names, who: *first })?;
+        for who in more {
+            write!(f, ", {}", Named { names, who: *who })?;
+        }
+        Ok(())
+    }
+}
+
+// Appends the line of a part, behind an indent.
+fn put_part(
+    text: &mut String,
+    names: &[&str],
+    part: &Explanation,
+    indent: &str,
+) -> Result<(), AllocError>
+    ensures lines { OnOk result (string_bytes text.new ≡ string_bytes text.old ++ (indent.now ++ part_line (names_of names.now) (explanation part.now))) }
+{
+    let line = Line {
+        names,
+        persons: &part.line,
+    };
+    writeln!(text, "{indent}{}{line}", part.part)
+}
+
+// Appends the lines of some parts, each behind an indent.
+pub fn put_parts(
+    text: &mut String,
+    names: &[&str],
+    parts: &[Explanation],
+    indent: &str,
+) -> Result<(), AllocError>
+    ensures lines { OnOk result (string_bytes text.new ≡ string_bytes text.old ++ flat_map (λ x. indent.now ++ part_line (names_of names.now) x) (explanations parts.now)) }
+{
+    for part in parts {
+        put_part(text, names, part, indent)?;
+    }
+    Ok(())
+}
+
+// Appends the lines of all parts of an heir and of the sum, or the line of the cause.
 pub fn put_answer(text: &mut String, names: &[&str], answer: &Answer) -> Result<(), AllocError>
-    ensures lines { OnOk result (string_bytes text.new ≡ string_bytes text.old ++ answer_lines (names_of names.now) answer.now) }
+    ensures lines { OnOk result (string_bytes text.new ≡ string_bytes text.old ++ share_lines (names_of names.now) answer.now) }
 {
     match answer {
-        Answer::NotThere => text.push_str("refused 4 at 0\n"),
-        Answer::BeyondLimit => text.push_str("refused 6 at 0\n"),
-        Answer::Heir(reasons) => put_reasons(text, names, reasons),
-        Answer::NoShare(cause) => text.push_str(cause_line(*cause)),
+        Answer::Heir(Reasons { parts, sum }) => {
+            put_parts(text, names, parts, "")?;
+            writeln!(text, "{sum} in all")
+        }
+        Answer::NoShare(cause) => writeln!(text, "no share: {cause}"),
     }
 }
 
-// Appends the lines that say why somebody has a share of somebody's estate, or why not: those of a right answer.
+// Appends the line of a refusal. Lack of memory has none, and is handed on.
+pub fn put_refusal(text: &mut String, refusal: Refusal) -> Result<(), Refusal>
+    ensures lines { OnOk result (string_bytes text.new ≡ string_bytes text.old ++ refusal_line refusal) }
+    ensures memory { OnOk result (¬ (refusal ≡ Refusal.NoMemory)) }
+    ensures fails { IsOkUnless result Refusal.NoMemory }
+{
+    match refusal {
+        Refusal::NotThere => text.push_str("refused 4 at 0\n")?,
+        Refusal::BeyondLimit => text.push_str("refused 6 at 0\n")?,
+        Refusal::NoMemory => return Err(refusal),
+    }
+    Ok(())
+}
+
+// Appends the lines that say why somebody has a share of somebody's estate, or why not: those of a right answer. Fails only where memory runs out.
 pub fn why_lines(
     text: &mut String,
     names: &[&str],
     family: &[Person],
     decedent: usize,
     who: usize,
-) -> Result<(), AllocError>
-    ensures lines { OnOk result (((a : Answer) × (string_bytes text.new ≡ string_bytes text.old ++ answer_lines (names_of names.now) a) × (WellFormed (family_of family.now) → AnswerRight (family_of family.now) decedent who a))) }
+) -> Result<(), Refusal>
+    ensures lines { OnOk result (((a : Result Answer Refusal) × (¬ (a ≡ Err Refusal.NoMemory)) × (string_bytes text.new ≡ string_bytes text.old ++ answer_lines (names_of names.now) a) × (WellFormed (family_of family.now) → AnswerRight (family_of family.now) decedent who a))) }
+    ensures fails { IsOkUnless result Refusal.NoMemory }
 {
-    let answer = why::why(*text.allocator(), family, decedent, who)?;
-    put_answer(text, names, &answer)?;
-    Ok(())
+    match why::why(*text.allocator(), family, decedent, who) {
+        Ok(answer) => Ok(put_answer(text, names, &answer)?),
+        Err(refusal) => put_refusal(text, refusal),
+    }
 }

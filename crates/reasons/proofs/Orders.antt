@@ -1,42 +1,37 @@
 -- The ways of each order, as they are gone down. Assumes nothing.
-use Rattle.std.proofs.Common.{◌≡◌, ℕ, zero, suc, ◌+◌, ◌-◌, ◌*◌, ◌<◌, ◌≤◌, Bool, true, false, cond, not, eqb, ◌⊎◌, List, [], ◌∷◌, ◌++◌, map, length, vec_items, vec_len, filter, sym, refl, ap, ◌∙◌, subst, ap₂, inl, inr, ⊎_elim, arith}
+use Rattle.std.proofs.Common.{◌≡◌, ℕ, zero, suc, ◌+◌, ◌-◌, ◌*◌, ◌<◌, ◌≤◌, Bool, true, false, cond, not, eqb, ◌⊎◌, List, [], ◌∷◌, ◌++◌, map, length, vec_items, vec_len, filter, sym, refl, ap, ◌∙◌, subst, ap₂, inl, inr, ⊎_elim, Result, arith}
 use Rattle.std.specs.List.{flat_map, AllByRecursion}
 use Rattle.std.proofs.lemmas.List.{append-nil, append_assoc, length-append, map-append}
 use Rattle.std.proofs.lemmas.List.Elements.{filter-append}
+use Rattle.std.proofs.lemmas.Result.{MatchResult-weaker}
 use Rattle.std.proofs.ByRecursion.{All-weaker, All-append, kept_by_passes}
 use Rattle.std.proofs.lemmas.Bool.{eqb-true, cond_both}
 use Rattle.law.specs.Family.{Family, person, children, parents, known, line_lives, living_lines, side_lives, living_sides, order}
 use Rattle.theory.specs.Families.{Ranked}
-use Rattle.theory.proofs.Lists.{kept_cong, all_any, joined_append}
+use Rattle.theory.proofs.Lists.{joined_append}
 use Rattle.theory.proofs.Lines.{stands_decedent, below_lives}
 use Rattle.descent.specs.Going.{TooLarge}
 use Rattle.descent.proofs.Going.{large_within}
 use Rattle.ways.specs.Ways.{Way, way_part, line_ways_in, heads_ways, couple_ways, first_ways, second_ways, third_ways, relatives_ways}
 use Rattle.ways.specs.Going.{ways_below, Enough, Beyond, Went}
-use Rattle.ways.proofs.Going.{way_divided, line_large}
+use Rattle.ways.specs.declared.WaysError.{WaysError}
+use Rattle.ways.proofs.Going.{way_divided, line_large, kept_lines, by_limit}
 use Rattle.reasons.specs.declared.Lines.{Lines}
 use Rattle.reasons.specs.Estates.{side_in, LinesIn, Known, Put}
 
 -- what going down did, of ways that are those of an order
 went_put :
-    (f : Family) (rk : ℕ → ℕ) (d n : ℕ) (ps : List ℕ) (b : ℕ) (before after row : List Way) (t : Bool) → Ranked f rk → AllByRecursion (Enough f rk d n) ps → ways_below n f d [] ps b ≡ row →
-    Went f d n [] ps b before after t → Put before row after t
-went_put f rk d n ps b before after row true s enough e w = w ∙ ap (λ r. before ++ r) e
-went_put f rk d n ps b before after row false s enough e w = subst (Beyond before) e (w rk s enough)
+    (f : Family) (rk : ℕ → ℕ) (d n : ℕ) (ps : List ℕ) (b : ℕ) (before after row : List Way) (r : Result (Unit {0}) WaysError) → Ranked f rk → AllByRecursion (Enough f rk d n) ps →
+    ways_below n f d [] ps b ≡ row → Went f d n [] ps b before after r → Put before row after r
+went_put f rk d n ps b before after row r s enough e w =
+    MatchResult-weaker r w (λ _ h. h ∙ ap (λ ws. before ++ ws) e) (λ y. by_limit y (λ h. subst (Beyond before) e (h rk s enough)))
 
 module _ {f : Family} {rk : ℕ → ℕ} {d : ℕ} {s : ℕ → Bool} (k : Known f rk d s) where
   pub kept_living : (ps : List ℕ) → filter s ps ≡ living_lines f d ps
-  kept_living ps = kept_cong s (line_lives f d) ps (all_any (λ p. s p ≡ line_lives f d p) k.marks ps)
+  kept_living ps = kept_lines f d s ps k.marks
 
   pub kept_lives : (ps : List ℕ) → AllByRecursion (λ p. line_lives f d p ≡ true) (filter s ps)
   kept_lives ps = subst (AllByRecursion (λ p. line_lives f d p ≡ true)) (sym (kept_living ps)) (kept_by_passes (line_lives f d) ps)
-
-  pub heads_put : (n : ℕ) (ps : List ℕ) (b : ℕ) (before after : List Way) (t : Bool) → length f ≡ n → AllByRecursion (λ p. line_lives f d p ≡ true) ps → Went f d n [] ps b before after t →
-      Put before (heads_ways f d ps b) after t
-  heads_put n ps b before after t e lives w =
-      went_put f rk d n ps b before after (heads_ways f d ps b) t k.ranked
-      (All-weaker (λ p. line_lives f d p ≡ true) (Enough f rk d n) (λ p v. (v, omega arith)) ps lives)
-      (ap (λ (m : ℕ). flat_map (λ p. line_ways_in (suc m) f d (p ∷ []) p b) ps) (sym e)) w
 
   module _ (n : ℕ) (cs : List ℕ) (b : ℕ) (size : length f ≡ n) (e : cs ≡ filter s (children f d)) where
     some : 0 < n
@@ -46,7 +41,7 @@ module _ {f : Family} {rk : ℕ → ℕ} {d : ℕ} {s : ℕ → Bool} (k : Known
     first_is each m =
         sym (way_divided f d n s [] cs d b each k.marks e (stands_decedent f d) m some) ∙ ap (λ (z : ℕ). line_ways_in (suc z) f d [] d b) (sym size)
 
-    pub first_put : (each : ℕ) (before after : List Way) (t : Bool) → each ≡ b * length cs → Went f d (n - 1) [] cs each before after t → Put before (first_ways f d b) after t
+    pub first_put : (each : ℕ) (before after : List Way) (t : Result (Unit {0}) WaysError) → each ≡ b * length cs → Went f d (n - 1) [] cs each before after t → Put before (first_ways f d b) after t
     first_put each before after t m w =
         went_put f rk d (n - 1) cs each before after (first_ways f d b) t k.ranked
         (subst (AllByRecursion (Enough f rk d (n - 1))) (sym (e ∙ kept_living (children f d))) (all_enough (living_lines f d (children f d)) (below_lives f d d)))
@@ -78,9 +73,9 @@ beyond_second before xs ys h =
     h
 
 -- one row of ways behind another
-pub put_both : (before xs ys mid after : List Way) (t : Bool) → Put before xs mid true → Put mid ys after t → Put before (xs ++ ys) after t
-put_both before xs ys mid after true e h = h ∙ ap (λ r. r ++ ys) e ∙ append_assoc before xs ys
-put_both before xs ys mid after false e h = beyond_second before xs ys (subst (λ r. Beyond r ys) e h)
+pub put_both : (before xs ys mid after : List Way) (r : Result (Unit {0}) WaysError) → mid ≡ before ++ xs → Put mid ys after r → Put before (xs ++ ys) after r
+put_both before xs ys mid after r e h =
+    MatchResult-weaker r h (λ _ g. g ∙ ap (λ ws. ws ++ ys) e ∙ append_assoc before xs ys) (λ y. by_limit y (λ g. beyond_second before xs ys (subst (λ ws. Beyond ws ys) e g)))
 
 -- how many lines of a couple live
 pub known_few : (s : ℕ → Bool) (k : ℕ) → length (filter s (known k)) ≤ 1

@@ -11,12 +11,12 @@ use Rattle.shares.specs.Parts.{lead_parts, whole_row, dividable, word_number, nu
 use Rattle.shares.specs.declared.Part.{Part as PartStruct}
 use Rattle.shares.proofs.Multiples.{multiple_on, multiple_off, multiple_end, multiple_row, number_none, number_some, word_some}
 use Rattle.succession.specs.Orders.{spouse_in}
-use Rattle.ways.specs.Ways.{way_part, spouse_by, spouse_ways, kin_ways, relatives_up}
+use Rattle.ways.specs.Ways.{way_part, spouse_ways, kin_ways, relatives_up}
 use Rattle.ways.specs.Going.{Beyond}
 use Rattle.ways.specs.Rows.{law_way, law_ways}
 use Rattle.ways.specs.declared.Way.{Way}
 use Rattle.ways.proofs.Laws.{estate_forget}
-use Rattle.reasons.specs.Estates.{lead_ways, heir_ways}
+use Rattle.reasons.specs.Estates.{lead_ways}
 
 abbrev pub parts_of : List Way → List Part
 parts_of ws = map way_part (law_ways ws)
@@ -112,14 +112,6 @@ beyond_refused f d h = subst (λ ps. dividable ps ≡ false) (sym (estate_forget
         h
 
 -- a living spouse's part
-pub spouse_lead : (f : Family) (d b : ℕ) → b ≡ spouse_by f d → heir_ways (spouse_in f d) b ≡ spouse_ways f d
-spouse_lead f d b e = ap (λ z. heir_ways (spouse_in f d) z) e ∙ go (has_living_spouse f d)
-  where
-    go : (t : Bool) → heir_ways (cond t (Some ((person f d).spouse - 1)) None) (spouse_by f d)
-        ≡ cond t (record { line = []; who = (person f d).spouse - 1; by = spouse_by f d } ∷ []) []
-    go true = refl
-    go false = refl
-
 pub lead_forget : (p : Option PartStruct) → lead_parts p ≡ map way_part (lead_ways p)
 lead_forget None = refl
 lead_forget (Some p) = refl

@@ -6,64 +6,51 @@ mod tests {
     use people::Person;
     use std::alloc::{AllocError, Global};
     use std::test::Fail;
-    use why::Answer;
+    use why::{Answer, Fraction};
 
-    // Somebody by mother and father, 0 or one more than a number; spouse likewise.
-    const fn person(mother: u32, father: u32, lives: bool, spouse: u32) -> Person {
+    // Somebody who lives, by mother and father, 0 or one more than a number.
+    const fn living(mother: u32, father: u32) -> Person {
         Person {
             mother,
             father,
-            lives,
-            spouse,
+            lives: true,
+            spouse: 0,
         }
-    }
-
-    const fn living(mother: u32, father: u32) -> Person {
-        person(mother, father, true, 0)
     }
 
     const fn dead(mother: u32, father: u32) -> Person {
-        person(mother, father, false, 0)
-    }
-
-    // A question and the lines that answer it.
-    #[derive(Clone, Copy)]
-    struct Case<'a> {
-        decedent: usize,
-        who: usize,
-        lines: &'a str,
-    }
-
-    fn asks(decedent: usize, who: usize, lines: &str) -> Case<'_> {
-        Case {
-            decedent,
-            who,
-            lines,
+        Person {
+            lives: false,
+            ..living(mother, father)
         }
     }
 
-    // Whether the answer to a question about a family is as it should be.
-    fn holds(
+    // The lines that say why somebody has a share of an estate, or why not.
+    fn reasons(
         heap: Global,
         names: &[&str],
         family: &[Person],
-        case: Case,
-    ) -> Result<bool, AllocError> {
+        decedent: usize,
+        who: usize,
+    ) -> Result<String, Fail> {
         let mut text = String::new(heap);
-        reason_lines::why_lines(&mut text, names, family, case.decedent, case.who)?;
-        Ok(text.as_str() == case.lines)
+        reason_lines::why_lines(&mut text, names, family, decedent, who)?;
+        Ok(text)
     }
 
-    // How many of the answers to questions about a family are as they should be.
-    fn agreeing(heap: Global, family: &[Person], cases: &[Case]) -> Result<usize, AllocError> {
-        let names = Vec::new(heap);
-        let mut count = 0;
-        for case in cases {
-            if holds(heap, names.as_slice(), family, *case)? && count < 1000 {
-                count += 1;
+    // Whether all questions about a family, each by decedent and heir, are answered by these lines.
+    fn all_hold(
+        heap: Global,
+        names: &[&str],
+        family: &[Person],
+        cases: &[(usize, usize, &str)],
+    ) -> Result<bool, Fail> {
+        for (decedent, who, lines) in cases {
+            if reasons(heap, names, family, *decedent, *who)?.as_str() != *lines {
+                return Ok(false);
             }
         }
-        Ok(count)
+        Ok(true)
     }
 
     // 2 and 3 are the children of 0 and 1, 4 is 2's child, 5 is 3's, and 6 is the child of 4 and 5.
@@ -80,21 +67,21 @@ mod tests {
             living(1, 2),
         ];
         let cases = [
-            asks(0, 6, "1/3 by 2, 4, 6\n1/3 by 3, 5, 6\n2/3 in all\n"),
-            asks(0, 7, "1/3 by 7\n1/3 in all\n"),
-            asks(0, 0, "no share: the decedent\n"),
-            asks(0, 1, "no share: not of the family\n"),
-            asks(0, 2, "no share: dead\n"),
-            asks(0, 8, "no share: not there\n"),
-            asks(8, 0, "refused 4 at 0\n"),
-            asks(6, 0, "no share: not of the family\n"),
-            asks(6, 7, "no share: not of the family\n"),
-            asks(7, 6, "no share: a living forebear stands before them\n"),
-            asks(2, 6, "1/1 by 4, 6\n1/1 in all\n"),
-            asks(2, 7, "no share: a nearer order inherits\n"),
-            asks(2, 0, "no share: a nearer order inherits\n"),
+            (0, 6, "1/3 by 2, 4, 6\n1/3 by 3, 5, 6\n2/3 in all\n"),
+            (0, 7, "1/3 by 7\n1/3 in all\n"),
+            (0, 0, "no share: the decedent\n"),
+            (0, 1, "no share: not of the family\n"),
+            (0, 2, "no share: dead\n"),
+            (0, 8, "no share: not there\n"),
+            (8, 0, "refused 4 at 0\n"),
+            (6, 0, "no share: not of the family\n"),
+            (6, 7, "no share: not of the family\n"),
+            (7, 6, "no share: a living forebear stands before them\n"),
+            (2, 6, "1/1 by 4, 6\n1/1 in all\n"),
+            (2, 7, "no share: a nearer order inherits\n"),
+            (2, 0, "no share: a nearer order inherits\n"),
         ];
-        assert_eq!(rt; agreeing(rt.alloc(), &family, &cases)?, 13);
+        assert!(rt; all_hold(rt.alloc(), &[], &family, &cases)?);
         Ok(())
     }
 
@@ -126,11 +113,11 @@ mod tests {
             living(10, 0),
         ];
         let cases = [
-            asks(0, 17, "1/32 by 1, 5, 17\n1/128 by 2, 9, 17\n5/128 in all\n"),
-            asks(0, 18, "1/32 by 1, 5, 18\n1/32 in all\n"),
-            asks(0, 3, "1/4 by 3\n1/4 in all\n"),
+            (0, 17, "1/32 by 1, 5, 17\n1/128 by 2, 9, 17\n5/128 in all\n"),
+            (0, 18, "1/32 by 1, 5, 18\n1/32 in all\n"),
+            (0, 3, "1/4 by 3\n1/4 in all\n"),
         ];
-        assert_eq!(rt; agreeing(rt.alloc(), &family, &cases)?, 3);
+        assert!(rt; all_hold(rt.alloc(), &[], &family, &cases)?);
         Ok(())
     }
 
@@ -138,19 +125,25 @@ mod tests {
     #[test]
     fn spouse_and_descendant(rt: HostRuntime) -> Result<(), Fail> {
         let family = [
-            person(0, 0, true, 3),
+            Person {
+                spouse: 3,
+                ..living(0, 0)
+            },
             dead(1, 0),
-            person(2, 0, true, 1),
+            Person {
+                spouse: 1,
+                ..living(2, 0)
+            },
             living(1, 0),
             living(4, 0),
         ];
         let cases = [
-            asks(0, 2, "1/4 as spouse\n3/8 by 1, 2\n5/8 in all\n"),
-            asks(0, 3, "3/8 by 3\n3/8 in all\n"),
-            asks(0, 4, "no share: a living forebear stands before them\n"),
-            asks(2, 0, "1/2 as spouse\n1/2 by 0\n1/1 in all\n"),
+            (0, 2, "1/4 as spouse\n3/8 by 1, 2\n5/8 in all\n"),
+            (0, 3, "3/8 by 3\n3/8 in all\n"),
+            (0, 4, "no share: a living forebear stands before them\n"),
+            (2, 0, "1/2 as spouse\n1/2 by 0\n1/1 in all\n"),
         ];
-        assert_eq!(rt; agreeing(rt.alloc(), &family, &cases)?, 4);
+        assert!(rt; all_hold(rt.alloc(), &[], &family, &cases)?);
         Ok(())
     }
 
@@ -167,57 +160,50 @@ mod tests {
             living(2, 0),
         ];
         let cases = [
-            asks(5, 0, "1/4 by 0\n1/4 by 0\n1/2 in all\n"),
-            asks(5, 2, "1/4 by 2\n1/4 in all\n"),
-            asks(5, 6, "1/4 by 1, 6\n1/4 in all\n"),
+            (5, 0, "1/4 by 0\n1/4 by 0\n1/2 in all\n"),
+            (5, 2, "1/4 by 2\n1/4 in all\n"),
+            (5, 6, "1/4 by 1, 6\n1/4 in all\n"),
         ];
-        assert_eq!(rt; agreeing(rt.alloc(), &family, &cases)?, 3);
+        assert!(rt; all_hold(rt.alloc(), &[], &family, &cases)?);
         Ok(())
     }
 
     // By names; who has none by number.
     #[test]
     fn by_names(rt: HostRuntime) -> Result<(), Fail> {
-        let heap = rt.alloc();
         let family = [dead(0, 0), dead(1, 0), living(2, 0), living(1, 0)];
         let names = ["Hans", "Anna", "Otto"];
-        assert!(rt;
-            holds(
-                heap,
-                &names,
-                &family,
-                asks(0, 2, "1/2 by Anna, Otto\n1/2 in all\n"),
-            )?
-        );
-        assert!(rt; holds(heap, &names, &family, asks(0, 3, "1/2 by 3\n1/2 in all\n"))?);
+        let cases = [
+            (0, 2, "1/2 by Anna, Otto\n1/2 in all\n"),
+            (0, 3, "1/2 by 3\n1/2 in all\n"),
+        ];
+        assert!(rt; all_hold(rt.alloc(), &names, &family, &cases)?);
         Ok(())
     }
 
     // Two who live, so many pairs of brother and sister one below the other, and a child who lives of the last pair.
-    fn pairs(heap: Global, count: u32) -> Result<Vec<Person>, AllocError> {
-        let mut family = Vec::new(heap);
-        family.push(living(0, 0))?;
-        family.push(living(0, 0))?;
-        let mut link = 1;
+    fn pairs(heap: Global, count: u8) -> Result<Vec<Person>, AllocError> {
+        let mut family = vec![in heap; living(0, 0), living(0, 0)]?;
         for pair in 0..count {
-            family.push(dead(link, link.wrapping_add(1)))?;
-            family.push(dead(link, link.wrapping_add(1)))?;
-            link = link.wrapping_add(2);
+            let mother = 2 * u32::from(pair) + 1;
+            family.push(dead(mother, mother + 1))?;
+            family.push(dead(mother, mother + 1))?;
         }
-        family.push(living(link, link.wrapping_add(1)))?;
+        let mother = 2 * u32::from(count) + 1;
+        family.push(living(mother, mother + 1))?;
         Ok(family)
     }
 
-    // How many parts come to somebody, and what they come to; none where the estate is refused or there is no share.
+    // How many parts come to somebody, and what they come to; none where there is no share.
     fn parts(
         heap: Global,
         family: &[Person],
         decedent: usize,
         who: usize,
-    ) -> Result<(usize, u64, u64), AllocError> {
+    ) -> Result<Option<(usize, Fraction)>, Fail> {
         match why::why(heap, family, decedent, who)? {
-            Answer::Heir(reasons) => Ok((reasons.parts.len(), reasons.sum.up, reasons.sum.down)),
-            _ => Ok((0, 0, 0)),
+            Answer::Heir(reasons) => Ok(Some((reasons.parts.len(), reasons.sum))),
+            Answer::NoShare(_) => Ok(None),
         }
     }
 
@@ -225,31 +211,18 @@ mod tests {
     fn as_many_parts_as_may_be(rt: HostRuntime) -> Result<(), Fail> {
         let heap = rt.alloc();
         let twelve = pairs(heap, 12)?;
-        assert_eq!(rt; parts(heap, twelve.as_slice(), 0, 26)?, (4096, 1, 1));
+        let whole = Fraction { up: 1, down: 1 };
+        assert_eq!(rt; parts(heap, &twelve, 0, 26)?, Some((4096, whole)));
         let thirteen = pairs(heap, 13)?;
-        let names = Vec::new(heap);
-        assert!(rt;
-            holds(
-                heap,
-                names.as_slice(),
-                thirteen.as_slice(),
-                asks(0, 28, "refused 6 at 0\n"),
-            )?
-        );
+        assert!(rt; all_hold(heap, &[], &thirteen, &[(0, 28, "refused 6 at 0\n")])?);
         Ok(())
     }
 
-    // Whether the table of an estate is as it should be.
-    fn is_table(
-        heap: Global,
-        family: &[Person],
-        decedent: usize,
-        lines: &str,
-    ) -> Result<bool, AllocError> {
-        let names = Vec::new(heap);
+    // The table of an estate.
+    fn table(heap: Global, family: &[Person], decedent: usize) -> Result<String, Fail> {
         let mut text = String::new(heap);
-        estate_table::table_lines(&mut text, names.as_slice(), family, decedent)?;
-        Ok(text.as_str() == lines)
+        estate_table::table_lines(&mut text, &[], family, decedent)?;
+        Ok(text)
     }
 
     // All heirs with their lines; nobody; and an estate of somebody who is not there.
@@ -257,17 +230,23 @@ mod tests {
     fn tables(rt: HostRuntime) -> Result<(), Fail> {
         let heap = rt.alloc();
         let family = [
-            person(0, 0, true, 3),
+            Person {
+                spouse: 3,
+                ..living(0, 0)
+            },
             dead(1, 0),
-            person(2, 0, true, 1),
+            Person {
+                spouse: 1,
+                ..living(2, 0)
+            },
             living(1, 0),
             living(4, 0),
         ];
         let all =
             "2 5/8\n  1/4 as spouse\n  3/8 by 1, 2\n3 3/8\n  3/8 by 3\nall shares together are 1/1\n";
-        assert!(rt; is_table(heap, &family, 0, all)?);
-        assert!(rt; is_table(heap, &[living(0, 0)], 0, "no heirs\n")?);
-        assert!(rt; is_table(heap, &family, 5, "refused 4 at 0\n")?);
+        assert_eq!(rt; table(heap, &family, 0)?.as_str(), all);
+        assert_eq!(rt; table(heap, &[living(0, 0)], 0)?.as_str(), "no heirs\n");
+        assert_eq!(rt; table(heap, &family, 5)?.as_str(), "refused 4 at 0\n");
         Ok(())
     }
 }

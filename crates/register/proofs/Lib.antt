@@ -1,3 +1,2 @@
-pub mod Serving
-pub mod Steps
 pub mod Promises
+pub mod Fits

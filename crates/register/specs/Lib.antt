@@ -1,4 +1,2 @@
-pub mod Desks
-pub mod Refusals
-pub mod Service
+pub mod Stages
 pub mod Stores

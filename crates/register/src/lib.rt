@@ -1,185 +1,26 @@
-// A register of families in lent memory: each call is taken by the rules, or turned away with nothing changed.
+// A register of families in lent memory, at a stage: each call is taken by the rules, or turned away with nothing changed.
 #![tactic(auto)]
 
-ghost use Rattle.std.specs.Prelude.{◌≡◌, ℕ, ◌≤◌, true, false, List, length, Ok, Err, MatchOption, nat_lt};
-ghost use Rattle.law.specs.Calls.{born, dies};
-ghost use Rattle.law.specs.Promise.{Right, RefusalKeeps};
+ghost use Rattle.std.specs.Prelude.{◌≡◌, ℕ, ◌≤◌, Bool, List, length, Ok, Err};
+ghost use Rattle.law.specs.Promise.{Right, RefusalKeeps, births_and_deaths, without_marriages, all_calls};
 ghost use Rattle.rows.specs.Written.{written};
-ghost use Rattle.wire.specs.Bytes.{call_of, read, answer_bytes};
-ghost use Rattle.people.specs.Layout.{Sound, Roomy, limit_in};
-ghost use Rattle.register.specs.Desks.{stage, desk, state, next, says};
-ghost use Rattle.register.specs.Refusals.{outcome, refusal_number, refusal_place};
-ghost use Rattle.register.specs.Service.{Served, Opened, opens, left_by};
-ghost use Rattle.register.specs.Stores.{words_in, bytes_in, bytes_asked};
+ghost use Rattle.wire.specs.Bytes.{read, answer_bytes};
+ghost use Rattle.people.specs.Layout.{Sound, limit_in};
+ghost use Rattle.service.specs.Desks.{desk, state, next, says, bytes_asked};
+ghost use Rattle.service.specs.Service.{Opened, opens, left_by};
+ghost use Rattle.register.specs.Stages.{RightWithin, RefusalKeepsWithin, AnswersKept, RelativesAlone};
+ghost use Rattle.register.specs.Stores.{words_in, bytes_in};
 
-pub mod refusal;
 pub mod session;
 pub mod store;
 
-use people::Person;
-use refusal::Refusal;
+use service::method::Passes;
+use service::refusal::Refusal;
+use service::stage::Stage;
 use session::Register;
+use std::marker::PhantomData;
+use std::mem;
 use store::Store;
-use wire::Request;
-
-// How many persons a register may have room for, and what it asks for: words for each person and more, bytes for each person and more, and bytes at least.
-const MOST_PERSONS: u32 = 4096;
-
-const WORDS_EACH: usize = 16;
-
-const WORDS_MORE: usize = 24576;
-
-const BYTES_EACH: usize = 20;
-
-const BYTES_MORE: usize = 8;
-
-const BYTES_LEAST: usize = 49160;
-
-impl Refusal {
-    // The number by which a refusal is told.
-    pub fn number(self) -> u32
-        ensures { result ≡ refusal_number self }
-    {
-        match self {
-            Refusal::Unreadable(_) => 1,
-            Refusal::NotTaken => 2,
-            Refusal::TooManyPersons | Refusal::TooSmall => 3,
-            Refusal::NotThere => 4,
-            Refusal::NotAllowed => 5,
-            Refusal::BeyondLimit => 6,
-        }
-    }
-
-    // The place that is told with it.
-    pub fn place(self) -> u32
-        ensures { result ≡ refusal_place self }
-    {
-        match self {
-            Refusal::Unreadable(place) => place,
-            Refusal::TooSmall => 1,
-            _ => 0,
-        }
-    }
-}
-
-// The number of the next person, if the limit allows one more.
-fn below(count: u32, limit: u32) -> Option<u32>
-    ensures cases { MatchOption result (nat_lt count limit ≡ false) (λ k. (nat_lt count limit ≡ true) × (k ≡ count)) }
-{
-    if count < limit { Some(count) } else { None }
-}
-
-// Somebody, if they live.
-fn if_living(someone: Person) -> Option<Person>
-    ensures cases { MatchOption result (someone.lives ≡ false) (λ q. (someone.lives ≡ true) × (q ≡ someone)) }
-{
-    if someone.lives { Some(someone) } else { None }
-}
-
-// A birth: the new person's number.
-fn bear(memory: &mut [u32], mother: u32, father: u32) -> Result<u32, Refusal>
-    requires room { Roomy memory.old }
-    ensures served { Sound memory.old → Served memory.old memory.new (born mother father) (outcome result) }
-{
-    let Some(child) = people::newborn(memory[1], mother, father) else {
-        return Err(Refusal::NotThere);
-    };
-    let Some(number) = below(memory[1], memory[0]) else {
-        return Err(Refusal::BeyondLimit);
-    };
-    people::add(memory, child);
-    living::begins(memory, number);
-    Ok(number)
-}
-
-// A death: who died.
-fn bury(memory: &mut [u32], who: u32) -> Result<u32, Refusal>
-    requires room { Roomy memory.old }
-    ensures served { Sound memory.old → Served memory.old memory.new (dies who) (outcome result) }
-{
-    let Some(someone) = people::find(memory, who) else {
-        return Err(Refusal::NotThere);
-    };
-    let Some(living) = if_living(someone) else {
-        return Err(Refusal::NotAllowed);
-    };
-    people::put(
-        memory,
-        who,
-        Person {
-            lives: false,
-            ..living
-        },
-    );
-    living::ends(memory, who);
-    Ok(who)
-}
-
-// Any call that could be read.
-fn serve(memory: &mut [u32], request: Request) -> Result<u32, Refusal>
-    requires room { Roomy memory.old }
-    ensures served { Sound memory.old → Served memory.old memory.new (call_of request) (outcome result) }
-{
-    match request {
-        Request::Born(mother, father) => bear(memory, mother, father),
-        Request::Dies(who) => bury(memory, who),
-        Request::Wed(_, _) => Err(Refusal::NotTaken),
-        Request::Parted(_) => Err(Refusal::NotTaken),
-        Request::EstateOf(_) => Err(Refusal::NotTaken),
-    }
-}
-
-// Any row of bytes.
-fn respond(memory: &mut [u32], row: &[u8]) -> Result<u32, Refusal>
-    requires room { Roomy memory.old }
-    ensures served { Sound memory.old → Served memory.old memory.new (read row.now) (outcome result) }
-{
-    match wire::decode(row) {
-        Ok(request) => serve(memory, request),
-        Err(place) => Err(Refusal::Unreadable(place)),
-    }
-}
-
-// Writes an answer's bytes, and says how many there are.
-fn put_outcome(answer: &mut [u8], reply: Result<u32, Refusal>) -> usize
-    requires room { 9 ≤ length answer.old }
-    ensures said { answer.new ≡ written 0 (answer_bytes (outcome reply)) answer.old }
-    ensures long { result ≡ length (answer_bytes (outcome reply)) }
-{
-    match reply {
-        Ok(number) => {
-            wire::put_number(answer, number);
-            5
-        }
-        Err(refusal) => {
-            wire::put_refusal(answer, refusal.number(), refusal.place());
-            9
-        }
-    }
-}
-
-// How many bytes a register for so many persons asks for.
-fn bytes_asked(limit: u32) -> usize
-    ensures value { result ≡ bytes_asked limit }
-{
-    (BYTES_MORE + BYTES_EACH * limit as usize).max(BYTES_LEAST)
-}
-
-// Opens words for a register whose answers go into so many bytes.
-fn prepare(memory: &mut [u32], bytes: usize, limit: u32) -> Result<(), Refusal>
-    ensures opened { Opened memory.old memory.new bytes limit result }
-{
-    if limit > MOST_PERSONS {
-        return Err(Refusal::TooManyPersons);
-    }
-    let words = WORDS_MORE + WORDS_EACH * limit as usize;
-    if memory.len() < words || bytes < bytes_asked(limit) {
-        return Err(Refusal::TooSmall);
-    }
-    rows::clear(memory, 0, words);
-    memory[0] = limit;
-    Ok(())
-}
 
 impl<'a> Store<'a> {
     // What is lent to a register.
@@ -204,30 +45,57 @@ fn prepare_store(store: &mut Store, limit: u32) -> Result<(), Refusal>
     ensures bytes { store.new.answer ≡ store.old.answer }
 {
     let bytes = store.answer.len();
-    prepare(store.memory, bytes, limit)
+    service::prepare(store.memory, bytes, limit)
 }
 
-fn respond_store(store: &mut Store, row: &[u8]) -> usize
+// Answers any row of bytes at a stage, and says how many bytes the answer has.
+fn answer_row<S: Stage>(memory: &mut [u32], answer: &mut [u8], row: &[u8]) -> usize
+    requires sound { Sound memory.old }
+    requires room { bytes_asked (limit_in memory.old) ≤ length answer.old }
+    ensures left { state memory.new ≡ next S.can (state memory.old) (read row.now) }
+    ensures said { answer.new ≡ written 0 (answer_bytes (says S.can (state memory.old) (read row.now))) answer.old }
+    ensures long { result ≡ length (answer_bytes (says S.can (state memory.old) (read row.now))) }
+    ensures sound { Sound memory.new }
+    ensures limit { limit_in memory.new ≡ limit_in memory.old }
+{
+    match service::respond::<S, Passes>(memory, answer, row) {
+        Ok(long) => long,
+        Err(refusal) => {
+            wire::put_refusal(answer, refusal.number(), refusal.place());
+            9
+        }
+    }
+}
+
+fn respond_store<S: Stage>(store: &mut Store, row: &[u8]) -> usize
     requires sound { Sound (words_in store.old) }
     requires room { bytes_asked (limit_in (words_in store.old)) ≤ length (bytes_in store.old) }
-    ensures left { state (words_in store.new) ≡ next (state (words_in store.old)) (read row.now) }
-    ensures said { bytes_in store.new ≡ written 0 (answer_bytes (says (state (words_in store.old)) (read row.now))) (bytes_in store.old) }
-    ensures long { result ≡ length (answer_bytes (says (state (words_in store.old)) (read row.now))) }
+    ensures left { state (words_in store.new) ≡ next S.can (state (words_in store.old)) (read row.now) }
+    ensures said { bytes_in store.new ≡ written 0 (answer_bytes (says S.can (state (words_in store.old)) (read row.now))) (bytes_in store.old) }
+    ensures long { result ≡ length (answer_bytes (says S.can (state (words_in store.old)) (read row.now))) }
     ensures sound { Sound (words_in store.new) }
     ensures room { bytes_asked (limit_in (words_in store.new)) ≤ length (bytes_in store.new) }
     ensures words { store.new.memory.ghost_name ≡ store.old.memory.ghost_name }
     ensures bytes { store.new.answer.ghost_name ≡ store.old.answer.ghost_name }
 {
-    let reply = respond(store.memory, row);
-    put_outcome(store.answer, reply)
+    let Store { memory, answer } = mem::replace(
+        store,
+        Store {
+            memory: &mut [],
+            answer: &mut [],
+        },
+    );
+    let long = answer_row::<S>(memory, answer, row);
+    *store = Store { memory, answer };
+    long
 }
 
-impl<'b, 'a> Register<'b, 'a> {
+impl<'b, 'a, S: Stage> Register<'b, 'a, S> {
     // Opens a register for so many persons in what is lent, or refuses and hands it back as it was.
     pub fn open(
         store: &'b mut Store<'a>,
         limit: u32,
-    ) -> Result<Register<'b, 'a>, (Refusal, &'b mut Store<'a>)>
+    ) -> Result<Register<'b, 'a, S>, (Refusal, &'b mut Store<'a>)>
         ensures cases { elim result [
           | Ok g ↦ (Ok tt ≡ opens limit (length (words_in store.old)) (length (bytes_in store.old)))
               × (state (words_in g.store.now) ≡ left_by (Ok tt) (words_in store.old) limit)
@@ -238,20 +106,23 @@ impl<'b, 'a> Register<'b, 'a> {
         ] }
     {
         match prepare_store(store, limit) {
-            Ok(()) => Ok(Register { store }),
+            Ok(()) => Ok(Register {
+                store,
+                stage: PhantomData,
+            }),
             Err(refusal) => Err((refusal, store)),
         }
     }
 
     // Answers a call, given as its bytes, and says how many bytes the answer has.
     pub fn call(&mut self, row: &[u8]) -> usize
-        ensures left { state (words_in self.new.store.now) ≡ next (state (words_in self.old.store.now)) (read row.now) }
-        ensures said { bytes_in self.new.store.now ≡ written 0 (answer_bytes (says (state (words_in self.old.store.now)) (read row.now))) (bytes_in self.old.store.now) }
-        ensures long { result ≡ length (answer_bytes (says (state (words_in self.old.store.now)) (read row.now))) }
+        ensures left { state (words_in self.new.store.now) ≡ next S.can (state (words_in self.old.store.now)) (read row.now) }
+        ensures said { bytes_in self.new.store.now ≡ written 0 (answer_bytes (says S.can (state (words_in self.old.store.now)) (read row.now))) (bytes_in self.old.store.now) }
+        ensures long { result ≡ length (answer_bytes (says S.can (state (words_in self.old.store.now)) (read row.now))) }
         ensures words { self.new.store.now.memory.ghost_name ≡ self.old.store.now.memory.ghost_name }
         ensures bytes { self.new.store.now.answer.ghost_name ≡ self.old.store.now.answer.ghost_name }
     {
-        respond_store(self.store, row)
+        respond_store::<S>(self.store, row)
     }
 
     // The bytes that answers are written into.
@@ -272,16 +143,25 @@ impl<'b, 'a> Register<'b, 'a> {
     }
 }
 
-// For every list of calls each answer is right, whatever lies behind the register's words.
-pub fn answers_are_right() -> u8
-    ensures { (rest : List ℕ) → Right stage (desk rest) }
-{
-    0
-}
+// For every list of calls each answer is right, whatever lies behind the register's words: at every stage, and so where births and deaths are taken and where all calls are.
+pub fn answers_are_right()
+    ensures every { (can : ℕ → Bool) (rest : List ℕ) → Right can (desk can rest) }
+    ensures births { (rest : List ℕ) → Right births_and_deaths (desk births_and_deaths rest) }
+    ensures all { (rest : List ℕ) → Right all_calls (desk all_calls rest) }
+{}
 
 // A call that is turned away leaves the memory as it was.
-pub fn refusals_keep() -> u8
-    ensures { (rest : List ℕ) → RefusalKeeps stage (desk rest) }
-{
-    0
-}
+pub fn refusals_keep()
+    ensures every { (can : ℕ → Bool) (rest : List ℕ) → RefusalKeeps can (desk can rest) }
+    ensures births { (rest : List ℕ) → RefusalKeeps births_and_deaths (desk births_and_deaths rest) }
+    ensures all { (rest : List ℕ) → RefusalKeeps all_calls (desk all_calls rest) }
+{}
+
+// The same where all calls are taken, for every list of calls without weddings and partings by the rules for families without marriages; these families keep their answers, and
+// relatives have the whole estate.
+pub fn without_marriages()
+    ensures right { (rest : List ℕ) → RightWithin without_marriages (desk all_calls rest) }
+    ensures keeps { (rest : List ℕ) → RefusalKeepsWithin without_marriages (desk all_calls rest) }
+    ensures same { AnswersKept without_marriages }
+    ensures relatives { RelativesAlone }
+{}

@@ -3,10 +3,8 @@
 // partings and widows; a spouse who is an heir by a line; every refusal; and a wedding that the end cuts off.
 #![tactic(auto)]
 
-use std::alloc::AllocError;
-use std::io::Read;
+use service::stage::AllCalls;
 use std::process::ExitCode;
-use std::{env, fmt, fs, io};
 
 const HELP: &str = "Usage: calls [FILE]
 
@@ -46,99 +44,6 @@ prints
   2 1/2
 ";
 
-// Why nothing was answered.
-#[derive(Drop)]
-enum Failure {
-    Arguments(io::Error),
-    ManyArguments,
-    UnknownOption(String),
-    Unreadable(String, io::Error),
-    UnreadableInput(io::Error),
-    NoMemory,
-    Unprintable(io::Error),
-}
-
-impl From<AllocError> for Failure {
-    fn from(_: AllocError) -> Failure {
-        Failure::NoMemory
-    }
-}
-
-impl fmt::Display for Failure {
-    fn fmt<W: fmt::Write>(&self, f: &mut fmt::Formatter<W>) -> fmt::Result {
-        match self {
-            Failure::Arguments(error) => write!(f, "arguments: {error}"),
-            Failure::ManyArguments => write!(f, "more than one argument; see calls --help"),
-            Failure::UnknownOption(option) => {
-                write!(f, "unknown option {option}; see calls --help")
-            }
-            Failure::Unreadable(name, error) => write!(f, "{name}: {error}"),
-            Failure::UnreadableInput(error) => write!(f, "standard input: {error}"),
-            Failure::NoMemory => write!(f, "not enough memory"),
-            Failure::Unprintable(error) => write!(f, "standard output: {error}"),
-        }
-    }
-}
-
-fn print(rt: &HostRuntime, text: &str) -> Result<(), Failure> {
-    match rt.print(text) {
-        Ok(()) => Ok(()),
-        Err(error) => Err(Failure::Unprintable(error)),
-    }
-}
-
-fn file_bytes(rt: &HostRuntime, name: String) -> Result<Vec<u8>, Failure> {
-    match fs::read(rt, name.as_str()) {
-        Ok(bytes) => Ok(bytes),
-        Err(error) => Err(Failure::Unreadable(name, error)),
-    }
-}
-
-fn input_bytes(rt: &HostRuntime) -> Result<Vec<u8>, Failure> {
-    let mut bytes = Vec::new(rt.alloc());
-    match rt.stdin().read_to_end(&mut bytes) {
-        Ok(_) => Ok(bytes),
-        Err(error) => Err(Failure::UnreadableInput(error)),
-    }
-}
-
-// The only argument, if there is one.
-fn argument(rt: &HostRuntime) -> Result<Option<String>, Failure> {
-    let mut arguments = match env::args(rt) {
-        Ok(arguments) => arguments,
-        Err(error) => return Err(Failure::Arguments(error)),
-    };
-    let _ = arguments.next();
-    let only = arguments.next();
-    if arguments.next().is_some() {
-        return Err(Failure::ManyArguments);
-    }
-    Ok(only)
-}
-
-fn run(rt: &HostRuntime) -> Result<(), Failure> {
-    let bytes = match argument(rt)? {
-        None => input_bytes(rt)?,
-        Some(word) => {
-            if word.as_str() == "--help" {
-                return print(rt, HELP);
-            }
-            if word.as_str().starts_with('-') {
-                return Err(Failure::UnknownOption(word));
-            }
-            file_bytes(rt, word)?
-        }
-    };
-    let lines = registry_report::answer_file(rt.alloc(), bytes.as_slice())?;
-    print(rt, lines.as_str())
-}
-
 fn main(rt: HostRuntime) -> ExitCode {
-    match run(&rt) {
-        Ok(()) => ExitCode::SUCCESS,
-        Err(failure) => {
-            let _ = eprintln!(rt; "calls: {failure}");
-            ExitCode::FAILURE
-        }
-    }
+    console::run::<AllCalls>(&rt, "calls", HELP)
 }

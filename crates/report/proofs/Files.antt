@@ -1,10 +1,10 @@
 -- The calls of a file, one after the other, and the lines that answer them. Assumes nothing.
-use Rattle.std.proofs.Common.{◌≡◌, ℕ, zero, suc, ◌<◌, ◌≤◌, ◌&&◌, ltb, leb, List, [], ◌∷◌, ◌++◌, length, get_or, take, drop, sym, refl, ap, ◌∙◌, arith}
+use Rattle.std.proofs.Common.{◌≡◌, ℕ, zero, suc, ◌<◌, ◌≤◌, Bool, ◌&&◌, ltb, leb, List, [], ◌∷◌, ◌++◌, length, get_or, take, drop, sym, refl, ap, ◌∙◌, arith}
 use Rattle.std.proofs.lemmas.List.{append-nil, append_assoc, length-drop, drop_all}
 use Rattle.std.proofs.lemmas.Bool.{leb-true, and_parts, cond_both}
 use Rattle.law.specs.Promise.{Memory, Desk, left_by}
 use Rattle.wire.specs.Bytes.{call_size, read}
-use Rattle.register.specs.Desks.{desk}
+use Rattle.service.specs.Desks.{desk}
 use Rattle.report.specs.Lines.{row_size, calls_in, file_calls, answer_text, printed, file_limits, file_lines}
 
 -- the next call has some of the bytes that are left
@@ -31,7 +31,7 @@ same_calls (suc m) (suc n) (b ∷ bs) h g =
     let rest = length-drop k (b ∷ bs) in
     ap (λ cs. read (take k (b ∷ bs)) ∷ cs) (same_calls m n (drop k (b ∷ bs)) (omega arith) (omega arith))
 
-calls_more : (bs : List ℕ) → 0 < length bs → file_calls bs ≡ read (take (row_size bs) bs) ∷ file_calls (drop (row_size bs) bs)
+pub calls_more : (bs : List ℕ) → 0 < length bs → file_calls bs ≡ read (take (row_size bs) bs) ∷ file_calls (drop (row_size bs) bs)
 unfolding calls_in
 calls_more [] h = absurd (omega arith)
 calls_more (b ∷ bs) h =
@@ -39,6 +39,11 @@ calls_more (b ∷ bs) h =
     let some : 0 < k = size_some (b ∷ bs) h in
     let rest = length-drop k (b ∷ bs) in
     ap (λ cs. read (take k (b ∷ bs)) ∷ cs) (same_calls (length bs) (length (drop k (b ∷ bs))) (drop k (b ∷ bs)) (omega arith) (omega arith))
+
+pub calls_none : (bs : List ℕ) → length bs ≤ 0 → file_calls bs ≡ []
+unfolding calls_in
+calls_none [] h = refl
+calls_none (b ∷ bs) h = absurd (omega arith)
 
 -- What was printed and left so far, from memory m0 and a text before: with what the rest of the file adds, it is what the whole file makes.
 pub record Sofar (d : Desk) (before : List ℕ) (m0 : Memory) (input text : List ℕ) (m : Memory) (rest : List ℕ) : Type 0 where
@@ -51,13 +56,11 @@ module _ (d : Desk) (before : List ℕ) (m0 : Memory) (input : List ℕ) where
 
   -- the next call of the file
   pub one_more :
-      (text later : List ℕ) (m next : Memory) (bs row rest : List ℕ) → Sofar d before m0 input text m bs → 0 < length bs →
-      row ≡ take (row_size bs) bs → rest ≡ drop (row_size bs) bs → later ≡ text ++ answer_text (d.says m (read row)) → next ≡ d.next m (read row) →
-      Sofar d before m0 input later next rest
+      (text later : List ℕ) (m next : Memory) (bs row rest : List ℕ) → Sofar d before m0 input text m bs → file_calls bs ≡ read row ∷ file_calls rest →
+      later ≡ text ++ answer_text (d.says m (read row)) → next ≡ d.next m (read row) → Sofar d before m0 input later next rest
   unfolding printed left_by
-  one_more text later m next bs row rest old h r s t n =
+  one_more text later m next bs row rest old cs t n =
       let c = read row in
-      let cs : file_calls bs ≡ c ∷ file_calls rest = calls_more bs h ∙ (λ i. read (sym r i) ∷ file_calls (sym s i)) in
       record {
         lines =
             (λ i. t i ++ printed d (n i) (file_calls rest))
@@ -66,14 +69,13 @@ module _ (d : Desk) (before : List ℕ) (m0 : Memory) (input : List ℕ) where
       }
 
   -- the end of the file
-  pub no_more : (text : List ℕ) (m : Memory) (rest : List ℕ) → Sofar d before m0 input text m rest → length rest ≤ 0
+  pub no_more : (text : List ℕ) (m : Memory) (rest : List ℕ) → Sofar d before m0 input text m rest → file_calls rest ≡ []
       → (text ≡ before ++ printed d m0 (file_calls input)) × (m ≡ left_by d m0 (file_calls input))
-  unfolding printed left_by calls_in
-  no_more text m [] old h = (sym (append-nil text) ∙ old.lines, old.left)
-  no_more text m (b ∷ bs) old h = absurd (omega arith)
+  unfolding printed left_by
+  no_more text m rest old none = (sym (append-nil text) ∙ (ap (λ cs. text ++ printed d m cs) (sym none) ∙ old.lines), ap (left_by d m) (sym none) ∙ old.left)
 
 -- a register that was opened in just as many words as it asks for
-pub opened_lines : (ws input : List ℕ) (m : Memory) → length ws ≡ 25600 → m ≡ (desk (drop 25600 ws)).opened file_limits
-    → printed (desk []) m (file_calls input) ≡ file_lines input
-opened_lines ws input m long e =
-    ap (λ u. printed (desk []) u (file_calls input)) (e ∙ ap (λ rest. (desk rest).opened file_limits) (drop_all 25600 ws (omega arith)))
+pub opened_lines : (can : ℕ → Bool) (ws input : List ℕ) (m : Memory) → length ws ≡ 25600 → m ≡ (desk can (drop 25600 ws)).opened (file_limits can)
+    → printed (desk can []) m (file_calls input) ≡ file_lines can input
+opened_lines can ws input m long e =
+    ap (λ u. printed (desk can []) u (file_calls input)) (e ∙ ap (λ rest. (desk can rest).opened (file_limits can)) (drop_all 25600 ws (omega arith)))

@@ -17,7 +17,5 @@ pub fn clear(row: &mut [u32], at: usize, count: usize)
     requires room { at + count ≤ length row.old }
     ensures left { row.new ≡ written at (replicate count 0) row.old }
 {
-    for i in at..at + count {
-        row[i] = 0;
-    }
+    row[at..at + count].fill(0);
 }

@@ -4,6 +4,7 @@ use Rattle.std.proofs.lemmas.Bool.{ltb-true, lt-ltb, le-ltb, cond-true, cond-fal
 use Rattle.std.proofs.lemmas.List.{length_push, length-set}
 use Rattle.law.specs.Family.{Person, Family, person}
 use Rattle.law.specs.Calls.{Call, born, dies, unreadable, refused, number, refusal, refusal_of, call_number, place, changed, newborn, dead}
+use Rattle.law.specs.Promise.{all_calls}
 use Rattle.rows.specs.Written.{written}
 use Rattle.people.specs.Layout.{words_asked, work_words, person_words, person_row, laid, image, limit_in, count_in, family_in, rest_in, parents_fit, Valid, Sound}
 use Rattle.people.proofs.Layouts.{length-family, limit_image, laid_same, working_set, image_none}
@@ -56,15 +57,15 @@ said_dies f a = refl
 fits : (ws : List ℕ) (m d : ℕ) (b : Bool) → parents_fit (count_in ws) m d ≡ b → parents_fit (length (family_in ws)) m d ≡ b
 fits ws m d b e = let l = length-family ws in rw l e
 
-pub born_not_there : (ws : List ℕ) (m d : ℕ) → Sound ws → parents_fit (count_in ws) m d ≡ false → Served ws ws (born m d) (refused 4 0)
+pub born_not_there : (ws : List ℕ) (m d : ℕ) → Sound ws → parents_fit (count_in ws) m d ≡ false → Served all_calls ws ws (born m d) (refused 4 0)
 born_not_there ws m d ok e =
-    refusal_served ws (born m d) 4 0 ok (refusal_born (limit_in ws) (family_in ws) m d ∙ cond-false _ _ _ (fits ws m d false e)) (omega arith) (place_born m d)
+    refusal_served all_calls ws (born m d) 4 0 ok (refusal_born (limit_in ws) (family_in ws) m d ∙ cond-false _ _ _ (fits ws m d false e)) (omega arith) (place_born m d)
 
-pub born_beyond : (ws : List ℕ) (m d : ℕ) → Sound ws → parents_fit (count_in ws) m d ≡ true → ltb (count_in ws) (limit_in ws) ≡ false → Served ws ws (born m d) (refused 6 0)
+pub born_beyond : (ws : List ℕ) (m d : ℕ) → Sound ws → parents_fit (count_in ws) m d ≡ true → ltb (count_in ws) (limit_in ws) ≡ false → Served all_calls ws ws (born m d) (refused 6 0)
 born_beyond ws m d ok e full =
     let f = family_in ws in
     let room : ltb (length f) (limit_in ws) ≡ false = ap (λ k. ltb k (limit_in ws)) (length-family ws) ∙ full in
-    refusal_served ws (born m d) 6 0 ok (refusal_born (limit_in ws) f m d ∙ cond-true _ _ _ (fits ws m d true e) ∙ cond-false _ _ _ room) (omega arith) (place_born m d)
+    refusal_served all_calls ws (born m d) 6 0 ok (refusal_born (limit_in ws) f m d ∙ cond-true _ _ _ (fits ws m d true e) ∙ cond-false _ _ _ room) (omega arith) (place_born m d)
 
 pub born_taken :
     (ws mid later : List ℕ) (m d : ℕ) (q : Person) (number' : ℕ) → Sound ws → parents_fit (count_in ws) m d ≡ true → ltb (count_in ws) (limit_in ws) ≡ true → q ≡ newborn m d → number' ≡ count_in ws →
@@ -72,7 +73,7 @@ pub born_taken :
     mid ≡ laid n (length f + 1) (person_row (f ++ (q ∷ []))) (link_row (f ++ (q ∷ []))) s work rest) →
     ((n : ℕ) (f : Family) (s : ℕ → Bool) (work rest : List ℕ) → Held mid n f s work rest → ParentsThere f n →
     later ≡ laid n (length f) (person_row f) (link_row f) (begun f number' s) work rest) →
-    Served ws later (born m d) (number number')
+    Served all_calls ws later (born m d) (number number')
 born_taken ws mid later m d q number' ok e free new is added begins =
     let n = limit_in ws in
     let f = family_in ws in
@@ -95,19 +96,19 @@ born_taken ws mid later m d q number' ok e free new is added begins =
     ∙ ap (λ k. laid n (length g) (person_row g) (link_row g) (begun g k (alive f)) work rest) (is ∙ sym l)
     ∙ laid_same n (length g) (person_row g) (link_row g) (begun g (length f) (alive f)) work rest (alive g) (birth_kept x (valid_ranked f ok.2) (valid_ranked g valid) refl) in
     let made = changed_born f m d in
-    subst (λ a. Served ws later (born m d) a) (said_born f m d ∙ ap number (l ∙ sym is))
-    (taken_served ws later (born m d) ok taken (rw made (omega arith)) (rw made valid) (rw made wrote))
+    subst (λ a. Served all_calls ws later (born m d) a) (said_born f m d ∙ ap number (l ∙ sym is))
+    (taken_served all_calls ws later (born m d) ok taken (rw made (omega arith)) (rw made valid) (rw made wrote))
 
 -- deaths
-pub dies_not_there : (ws : List ℕ) (a : ℕ) → Sound ws → length (family_in ws) ≤ a → Served ws ws (dies a) (refused 4 0)
+pub dies_not_there : (ws : List ℕ) (a : ℕ) → Sound ws → length (family_in ws) ≤ a → Served all_calls ws ws (dies a) (refused 4 0)
 dies_not_there ws a ok h =
-    refusal_served ws (dies a) 4 0 ok (refusal_dies (limit_in ws) (family_in ws) a ∙ cond-false _ _ _ (le-ltb a (length (family_in ws)) h)) (omega arith) (place_dies a)
+    refusal_served all_calls ws (dies a) 4 0 ok (refusal_dies (limit_in ws) (family_in ws) a ∙ cond-false _ _ _ (le-ltb a (length (family_in ws)) h)) (omega arith) (place_dies a)
 
 pub dies_not_allowed :
-    (ws : List ℕ) (a : ℕ) (q : Person) → Sound ws → a < length (family_in ws) → q ≡ person (family_in ws) a → q.lives ≡ false → Served ws ws (dies a) (refused 5 0)
+    (ws : List ℕ) (a : ℕ) (q : Person) → Sound ws → a < length (family_in ws) → q ≡ person (family_in ws) a → q.lives ≡ false → Served all_calls ws ws (dies a) (refused 5 0)
 dies_not_allowed ws a q ok h is dead' =
     let f = family_in ws in
-    refusal_served ws (dies a) 5 0 ok
+    refusal_served all_calls ws (dies a) 5 0 ok
     (refusal_dies (limit_in ws) f a ∙ cond-true _ _ _ (lt-ltb a (length f) h) ∙ cond-false _ _ _ (ap (λ p. p.lives) (sym is) ∙ dead')) (omega arith) (place_dies a)
 
 -- somebody marked dead, and the marks of lines after it; and somebody marked living again
@@ -147,7 +148,7 @@ pub dies_taken :
     mid ≡ written (2 + 4 * a) (person_words (dead q)) ws →
     ((n : ℕ) (f : Family) (s : ℕ → Bool) (work rest : List ℕ) → Held mid n f s work rest → ParentsThere f n →
     later ≡ laid n (length f) (person_row f) (link_row f) (ended f a s) work rest) →
-    Served ws later (dies a) (number a)
+    Served all_calls ws later (dies a) (number a)
 dies_taken ws mid later a q ok h is lives w ends =
     let n = limit_in ws in
     let f = family_in ws in
@@ -160,13 +161,13 @@ dies_taken ws mid later a q ok h is lives w ends =
     let valid : Valid g = valid_dies f a h ok.2 in
     let wrote : later ≡ image n g (rest_in ws) = death_left n f (rest_in ws) ws mid later a q ok.0 ok.2 (omega arith) h is w ends in
     let made = changed_dies f a in
-    subst (λ b. Served ws later (dies a) b) (said_dies f a)
-    (taken_served ws later (dies a) ok taken (rw made (omega arith)) (rw made valid) (rw made wrote))
+    subst (λ b. Served all_calls ws later (dies a) b) (said_dies f a)
+    (taken_served all_calls ws later (dies a) ok taken (rw made (omega arith)) (rw made valid) (rw made wrote))
 
--- bytes that are no call
-pub unreadable_refused : (ws : List ℕ) (k : ℕ) (c : Call) → Sound ws → unreadable k ≡ c → Served ws ws c (refused 1 k)
+-- bytes that are no call, at any stage
+pub unreadable_refused : (can : ℕ → Bool) (ws : List ℕ) (k : ℕ) (c : Call) → Sound ws → unreadable k ≡ c → Served can ws ws c (refused 1 k)
 unfolding call_number refusal_of place
-unreadable_refused ws k c ok e = subst (λ d. Served ws ws d (refused 1 k)) e (refusal_served ws (unreadable k) 1 k ok refl (omega arith) refl)
+unreadable_refused can ws k c ok e = subst (λ d. Served can ws ws d (refused 1 k)) e (refusal_served can ws (unreadable k) 1 k ok refl (omega arith) refl)
 
 -- opening
 pub opened :

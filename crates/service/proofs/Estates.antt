@@ -4,6 +4,7 @@ use Rattle.std.proofs.lemmas.Bool.{lt-ltb, le-ltb, eqb-true, cond-true, cond-fal
 use Rattle.std.proofs.lemmas.List.{length-set}
 use Rattle.law.specs.Family.{Person, Family, person, estate}
 use Rattle.law.specs.Calls.{Call, estate_of, Answer, refused, number, shares, refusal, refusal_of, call_number, place, there, changed, dead}
+use Rattle.law.specs.Promise.{all_calls}
 use Rattle.rows.specs.Written.{written}
 use Rattle.wire.specs.Bytes.{answer_bytes}
 use Rattle.wire.proofs.Bytes.{length-number, length-shares}
@@ -87,8 +88,8 @@ unfolding answer_taken
 said_estate f a = refl
 
 -- a refusal handed on, with nothing written
-pub refused_replied : (ws later : List ℕ) (c : Call) (lent : List ℕ) (e : Refusal) → Served ws later c (outcome (Err e)) → Replied ws later c lent lent (Err e)
-refused_replied ws later c lent e s = record { left = s.left; said = (s.said, refl); sound = s.sound; limit = s.limit }
+pub refused_replied : (can : ℕ → Bool) (ws later : List ℕ) (c : Call) (lent : List ℕ) (e : Refusal) → Served can ws later c (outcome (Err e)) → Replied can ws later c lent lent (Err e)
+refused_replied can ws later c lent e s = record { left = s.left; said = (s.said, refl); sound = s.sound; limit = s.limit }
 
 -- a number written
 said_taken : (b : Bool) (t n m p : ℕ) (a : Answer) → eqb t 0 ≡ b → number n ≡ cond b a (refused m p) → t ≡ 0
@@ -96,10 +97,10 @@ said_taken true t n m p a e s = eqb-true t 0 e
 said_taken false t n m p a e s = absurd (let z : ◌≡◌ {A = ℕ} 0 1 = cc in omega arith)
 
 pub number_replied :
-    (ws later : List ℕ) (c : Call) (reply r : Result ℕ Refusal) (lent bytes : List ℕ) → Served ws later c (outcome reply) → Put reply lent bytes r → Replied ws later c lent bytes r
+    (ws later : List ℕ) (c : Call) (reply r : Result ℕ Refusal) (lent bytes : List ℕ) → Served all_calls ws later c (outcome reply) → Put reply lent bytes r → Replied all_calls ws later c lent bytes r
 number_replied ws later c (Ok n) r lent bytes s put =
     let t = refusal (limits (limit_in ws)) (family_in ws) c in
-    subst (λ z. Replied ws later c lent bytes z) (sym put.0)
+    subst (λ z. Replied all_calls ws later c lent bytes z) (sym put.0)
     (record {
       left = s.left;
       said = (
@@ -111,17 +112,17 @@ number_replied ws later c (Ok n) r lent bytes s put =
       limit = s.limit;
     })
 number_replied ws later c (Err e) r lent bytes s put =
-    subst (λ z. Replied ws later c lent bytes z) (sym put.0) (subst (λ b. Replied ws later c lent b (Err e)) (sym put.1) (refused_replied ws later c lent e s))
+    subst (λ z. Replied all_calls ws later c lent bytes z) (sym put.0) (subst (λ b. Replied all_calls ws later c lent b (Err e)) (sym put.1) (refused_replied all_calls ws later c lent e s))
 
 -- estates
-pub estate_not_there : (ws lent : List ℕ) (a : ℕ) → Sound ws → length (family_in ws) ≤ a → Replied ws ws (estate_of a) lent lent (Err NotThere)
+pub estate_not_there : (ws lent : List ℕ) (a : ℕ) → Sound ws → length (family_in ws) ≤ a → Replied all_calls ws ws (estate_of a) lent lent (Err NotThere)
 estate_not_there ws lent a ok h =
-    refused_replied ws ws (estate_of a) lent NotThere
-    (refusal_served ws (estate_of a) 4 0 ok (refusal_estate (limit_in ws) (family_in ws) a ∙ cond-false _ _ _ (le-ltb a (length (family_in ws)) h)) (omega arith) (place_estate a))
+    refused_replied all_calls ws ws (estate_of a) lent NotThere
+    (refusal_served all_calls ws (estate_of a) 4 0 ok (refusal_estate (limit_in ws) (family_in ws) a ∙ cond-false _ _ _ (le-ltb a (length (family_in ws)) h)) (omega arith) (place_estate a))
 
 module _ (ws later lent bytes : List ℕ) (a : ℕ) (r : Option ℕ) (ok : Sound ws) (h : a < length (family_in ws))
     (done : EstateSettled (limit_in ws) (family_in ws) (rest_in ws) a later lent bytes r) where
-  pub estate_beyond : r ≡ None → Replied ws later (estate_of a) lent bytes (Err BeyondLimit)
+  pub estate_beyond : r ≡ None → Replied all_calls ws later (estate_of a) lent bytes (Err BeyondLimit)
   estate_beyond none =
       let f = family_in ws in
       let over : dividable (estate f a) ≡ false =
@@ -129,11 +130,11 @@ module _ (ws later lent bytes : List ℕ) (a : ℕ) (r : Option ℕ) (ok : Sound
       let z : ◌≡◌ {A = ℕ} 0 1 = cc in omega arith)) (λ e. e) (cases_Bool (dividable (estate f a))) in
       let same : later ≡ ws = done.left ∙ sym ok.0 in
       let wrote : bytes ≡ lent = done.said ∙ cond-false _ _ _ over in
-      let s = refusal_served ws (estate_of a) 6 0 ok (refusal_estate (limit_in ws) f a ∙ cond-true _ _ _ (lt-ltb a (length f) h) ∙ cond-false _ _ _ over) (omega arith) (place_estate a) in
-      subst (λ m. Replied ws m (estate_of a) lent bytes (Err BeyondLimit)) (sym same)
-      (subst (λ b. Replied ws ws (estate_of a) lent b (Err BeyondLimit)) (sym wrote) (refused_replied ws ws (estate_of a) lent BeyondLimit s))
+      let s = refusal_served all_calls ws (estate_of a) 6 0 ok (refusal_estate (limit_in ws) f a ∙ cond-true _ _ _ (lt-ltb a (length f) h) ∙ cond-false _ _ _ over) (omega arith) (place_estate a) in
+      subst (λ m. Replied all_calls ws m (estate_of a) lent bytes (Err BeyondLimit)) (sym same)
+      (subst (λ b. Replied all_calls ws ws (estate_of a) lent b (Err BeyondLimit)) (sym wrote) (refused_replied all_calls ws ws (estate_of a) lent BeyondLimit s))
 
-  pub estate_within : (k : ℕ) → r ≡ Some k → Replied ws later (estate_of a) lent bytes (Ok (5 + 20 * k))
+  pub estate_within : (k : ℕ) → r ≡ Some k → Replied all_calls ws later (estate_of a) lent bytes (Ok (5 + 20 * k))
   estate_within k some =
       let f = family_in ws in
       let ss = shares_of (estate f a) in
@@ -144,8 +145,8 @@ module _ (ws later lent bytes : List ℕ) (a : ℕ) (r : Option ℕ) (ok : Sound
       let taken : refusal (limits (limit_in ws)) f (estate_of a) ≡ 0 = refusal_estate (limit_in ws) f a ∙ cond-true _ _ _ (lt-ltb a (length f) h) ∙ cond-true _ _ _ fits in
       let made = changed_estate f a in
       let l = length-family ws in
-      let s = taken_served ws later (estate_of a) ok taken (rw made (omega arith)) (rw made ok.2) (rw made done.left) in
-      let is : shares ss ≡ says (state ws) (estate_of a) = sym (said_estate f a) ∙ s.said in
+      let s = taken_served all_calls ws later (estate_of a) ok taken (rw made (omega arith)) (rw made ok.2) (rw made done.left) in
+      let is : shares ss ≡ says all_calls (state ws) (estate_of a) = sym (said_estate f a) ∙ s.said in
       record {
         left = s.left;
         said = (

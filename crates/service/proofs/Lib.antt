@@ -2,3 +2,4 @@ pub mod Serving
 pub mod Births
 pub mod Marriages
 pub mod Estates
+pub mod Stages

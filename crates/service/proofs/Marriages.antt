@@ -4,6 +4,7 @@ use Rattle.std.proofs.lemmas.Bool.{lt-ltb, le-ltb, eq-eqb, ne_eqb, cond-true, co
 use Rattle.std.proofs.lemmas.List.{length-set, get_or-set_other}
 use Rattle.law.specs.Family.{Person, Family, person, nobody}
 use Rattle.law.specs.Calls.{wed, parted, refused, number, refusal, refusal_of, call_number, place, there, unmarried, changed, with_spouse}
+use Rattle.law.specs.Promise.{all_calls}
 use Rattle.rows.specs.Written.{written}
 use Rattle.theory.specs.Living.{alive}
 use Rattle.theory.specs.Answers.{answer_taken}
@@ -72,33 +73,33 @@ couple_left n f rest a b x y ok room la lb ab mx dx vx my dy vy =
     (λ q. sym (same_lines (valid_ranked f ok) (parents_two f a b x y mx dx my dy) (λ p. same_two (λ (z : Person). z.lives) f a b x y p vx vy) q))
 
 -- weddings
-pub wed_first_missing : (ws : List ℕ) (a b : ℕ) → Sound ws → length (family_in ws) ≤ a → Served ws ws (wed a b) (refused 4 0)
+pub wed_first_missing : (ws : List ℕ) (a b : ℕ) → Sound ws → length (family_in ws) ≤ a → Served all_calls ws ws (wed a b) (refused 4 0)
 wed_first_missing ws a b ok h =
     let f = family_in ws in
     let no_one : (there f a && there f b) ≡ false = ap (λ t. t && there f b) (le-ltb a (length f) h) in
-    refusal_served ws (wed a b) 4 0 ok (refusal_wed (limit_in ws) f a b ∙ cond-false _ _ _ no_one) (omega arith) (place_wed a b)
+    refusal_served all_calls ws (wed a b) 4 0 ok (refusal_wed (limit_in ws) f a b ∙ cond-false _ _ _ no_one) (omega arith) (place_wed a b)
 
-pub wed_second_missing : (ws : List ℕ) (a b : ℕ) → Sound ws → a < length (family_in ws) → length (family_in ws) ≤ b → Served ws ws (wed a b) (refused 4 0)
+pub wed_second_missing : (ws : List ℕ) (a b : ℕ) → Sound ws → a < length (family_in ws) → length (family_in ws) ≤ b → Served all_calls ws ws (wed a b) (refused 4 0)
 wed_second_missing ws a b ok h l =
     let f = family_in ws in
     let no_one : (there f a && there f b) ≡ false = λ i. lt-ltb a (length f) h i && le-ltb b (length f) l i in
-    refusal_served ws (wed a b) 4 0 ok (refusal_wed (limit_in ws) f a b ∙ cond-false _ _ _ no_one) (omega arith) (place_wed a b)
+    refusal_served all_calls ws (wed a b) 4 0 ok (refusal_wed (limit_in ws) f a b ∙ cond-false _ _ _ no_one) (omega arith) (place_wed a b)
 
 both_there : (f : Family) (a b : ℕ) → a < length f → b < length f → (there f a && there f b) ≡ true
 both_there f a b la lb = λ i. lt-ltb a (length f) la i && lt-ltb b (length f) lb i
 
 pub wed_not_allowed :
     (ws : List ℕ) (a b : ℕ) (p q : Person) → Sound ws → a < length (family_in ws) → b < length (family_in ws) → p ≡ person (family_in ws) a → q ≡ person (family_in ws) b →
-    may_wed a p b q ≡ false → Served ws ws (wed a b) (refused 5 0)
+    may_wed a p b q ≡ false → Served all_calls ws ws (wed a b) (refused 5 0)
 wed_not_allowed ws a b p q ok la lb is other e =
     let f = family_in ws in
-    refusal_served ws (wed a b) 5 0 ok
+    refusal_served all_calls ws (wed a b) 5 0 ok
     (refusal_wed (limit_in ws) f a b ∙ cond-true _ _ _ (both_there f a b la lb) ∙ cond-false _ _ _ ((λ i. may_wed a (sym is i) b (sym other i)) ∙ e)) (omega arith) (place_wed a b)
 
 pub wed_left :
     (ws mid later : List ℕ) (a b : ℕ) (p q x y : Person) → Sound ws → a < length (family_in ws) → b < length (family_in ws) → p ≡ person (family_in ws) a → q ≡ person (family_in ws) b →
     may_wed a p b q ≡ true → x ≡ with_spouse p (b + 1) → y ≡ with_spouse q (a + 1) → mid ≡ written (2 + 4 * a) (person_words x) ws → later ≡ written (2 + 4 * b) (person_words y) mid →
-    Served ws later (wed a b) (number a)
+    Served all_calls ws later (wed a b) (number a)
 wed_left ws mid later a b p q x y ok la lb is other e newx newy w1 w2 =
     let n = limit_in ws in
     let f = family_in ws in
@@ -118,20 +119,20 @@ wed_left ws mid later a b p q x y ok la lb is other e newx newy w1 w2 =
     w2 ∙ ap (written (2 + 4 * b) (person_words y)) w1 ∙ (λ i. written (2 + 4 * b) (person_words (ey i)) (written (2 + 4 * a) (person_words (ex i)) (ok.0 i)))
     ∙ couple_left n f rest a b x' y' ok.2 (omega arith) la lb t.2 refl refl refl refl refl refl in
     let made = changed_wed f a b in
-    subst (λ z. Served ws later (wed a b) z) (said_wed f a b)
-    (taken_served ws later (wed a b) ok taken (rw made (omega arith)) (rw made valid) (rw made wrote))
+    subst (λ z. Served all_calls ws later (wed a b) z) (said_wed f a b)
+    (taken_served all_calls ws later (wed a b) ok taken (rw made (omega arith)) (rw made valid) (rw made wrote))
 
 -- partings
-pub parted_not_there : (ws : List ℕ) (a : ℕ) → Sound ws → length (family_in ws) ≤ a → Served ws ws (parted a) (refused 4 0)
+pub parted_not_there : (ws : List ℕ) (a : ℕ) → Sound ws → length (family_in ws) ≤ a → Served all_calls ws ws (parted a) (refused 4 0)
 parted_not_there ws a ok h =
-    refusal_served ws (parted a) 4 0 ok (refusal_parted (limit_in ws) (family_in ws) a ∙ cond-false _ _ _ (le-ltb a (length (family_in ws)) h)) (omega arith) (place_parted a)
+    refusal_served all_calls ws (parted a) 4 0 ok (refusal_parted (limit_in ws) (family_in ws) a ∙ cond-false _ _ _ (le-ltb a (length (family_in ws)) h)) (omega arith) (place_parted a)
 
 -- a spouse is there
 spouse_there : (f : Family) (a : ℕ) → Valid f → (person f a).spouse ≢ 0 → ((person f a).spouse - 1 < length f) × (a ≢ (person f a).spouse - 1)
 spouse_there f a ok ne = let s = (valid_well_formed f ok).spouses a ((person f a).spouse - 1) (omega arith) in (s.0, s.2)
 
 pub parted_not_allowed :
-    (ws : List ℕ) (a : ℕ) (q : Person) → Sound ws → a < length (family_in ws) → q ≡ person (family_in ws) a → (q.spouse ≡ 0) ⊎ (limit_in ws < q.spouse) → Served ws ws (parted a) (refused 5 0)
+    (ws : List ℕ) (a : ℕ) (q : Person) → Sound ws → a < length (family_in ws) → q ≡ person (family_in ws) a → (q.spouse ≡ 0) ⊎ (limit_in ws < q.spouse) → Served all_calls ws ws (parted a) (refused 5 0)
 parted_not_allowed ws a q ok h is none =
     let f = family_in ws in
     let l = length-family ws in
@@ -139,13 +140,13 @@ parted_not_allowed ws a q ok h is none =
     let alone : (person f a).spouse ≡ 0 =
     ⊎_elim (λ (e : q.spouse ≡ 0). sym same ∙ e)
     (λ (e : limit_in ws < q.spouse). absurd (let s = spouse_there f a ok.2 (λ z. absurd (omega arith)) in omega arith)) none in
-    refusal_served ws (parted a) 5 0 ok
+    refusal_served all_calls ws (parted a) 5 0 ok
     (refusal_parted (limit_in ws) f a ∙ cond-true _ _ _ (lt-ltb a (length f) h) ∙ cond-true _ _ _ (eq-eqb (person f a).spouse 0 alone)) (omega arith) (place_parted a)
 
 pub parted_left :
     (ws mid later : List ℕ) (a b : ℕ) (p q : Person) → Sound ws → a < length (family_in ws) → p ≡ person (family_in ws) a → p.spouse ≡ suc b →
     (b < limit_in ws → q ≡ person (family_in ws) b) → mid ≡ written (2 + 4 * a) (person_words (with_spouse p 0)) ws → later ≡ written (2 + 4 * b) (person_words (with_spouse q 0)) mid →
-    Served ws later (parted a) (number b)
+    Served all_calls ws later (parted a) (number b)
 parted_left ws mid later a b p q ok la is married read w1 w2 =
     let n = limit_in ws in
     let f = family_in ws in
@@ -169,5 +170,5 @@ parted_left ws mid later a b p q ok la is married read w1 w2 =
     ∙ (λ i. written (2 + 4 * sym at i) (person_words (with_spouse (other i) 0)) (written (2 + 4 * a) (person_words (with_spouse (is i) 0)) (ok.0 i)))
     ∙ couple_left n f rest a b' x y ok.2 (omega arith) la t.0 t.1 refl refl refl refl refl refl in
     let made = changed_parted f a in
-    subst (λ z. Served ws later (parted a) z) (said_parted f a ∙ ap number at)
-    (taken_served ws later (parted a) ok taken (rw made (omega arith)) (rw made valid) (rw made wrote))
+    subst (λ z. Served all_calls ws later (parted a) z) (said_parted f a ∙ ap number at)
+    (taken_served all_calls ws later (parted a) ok taken (rw made (omega arith)) (rw made valid) (rw made wrote))

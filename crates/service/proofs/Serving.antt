@@ -1,12 +1,12 @@
 -- What a call leaves and answers, from what it does with the words: a refusal, and an acceptance. Assumes nothing.
-use Rattle.std.proofs.Common.{◌≡◌, ℕ, ◌<◌, ◌≤◌, true, false, eqb, List, length, sym, refl, ap, ◌∙◌, subst, arith}
+use Rattle.std.proofs.Common.{◌≡◌, ℕ, ◌<◌, ◌≤◌, Bool, true, false, eqb, List, length, sym, refl, ap, ◌∙◌, subst, arith}
 use Rattle.std.proofs.lemmas.Bool.{eq-eqb, ne_eqb, cond-true, cond-false}
 use Rattle.law.specs.Family.{Family}
 use Rattle.law.specs.Calls.{Call, refused, refusal, place, after, changed}
 use Rattle.people.specs.Layout.{image, limit_in, count_in, family_in, rest_in, Valid, Sound}
 use Rattle.people.proofs.Layouts.{length-image, limit_image, count_image, family_image, rest_image}
 use Rattle.theory.specs.Answers.{answer_taken}
-use Rattle.service.specs.Desks.{limits, state}
+use Rattle.service.specs.Desks.{limits_of, state}
 use Rattle.service.specs.Service.{Served}
 
 -- the memory of a valid family is sound
@@ -25,9 +25,9 @@ sound_image n f rest ws most room ok w =
 
 -- a call that is turned away leaves the words as they were
 pub refusal_served :
-    (ws : List ℕ) (c : Call) (t p : ℕ) → Sound ws → refusal (limits (limit_in ws)) (family_in ws) c ≡ t → 0 < t → place c ≡ p → Served ws ws c (refused t p)
-refusal_served ws c t p ok e pos at =
-    let l = limits (limit_in ws) in
+    (can : ℕ → Bool) (ws : List ℕ) (c : Call) (t p : ℕ) → Sound ws → refusal (limits_of can (limit_in ws)) (family_in ws) c ≡ t → 0 < t → place c ≡ p → Served can ws ws c (refused t p)
+refusal_served can ws c t p ok e pos at =
+    let l = limits_of can (limit_in ws) in
     let f = family_in ws in
     let turned : eqb (refusal l f c) 0 ≡ false = ne_eqb (refusal l f c) 0 (omega arith) in
     let same : after l f c ≡ f = cond-false _ _ _ turned in
@@ -40,10 +40,10 @@ refusal_served ws c t p ok e pos at =
 
 -- a call that is taken leaves the memory of the changed family
 pub taken_served :
-    (ws later : List ℕ) (c : Call) → Sound ws → refusal (limits (limit_in ws)) (family_in ws) c ≡ 0 → length (changed (family_in ws) c) ≤ limit_in ws →
-    Valid (changed (family_in ws) c) → later ≡ image (limit_in ws) (changed (family_in ws) c) (rest_in ws) → Served ws later c (answer_taken (family_in ws) c)
-taken_served ws later c ok e room valid w =
-    let l = limits (limit_in ws) in
+    (can : ℕ → Bool) (ws later : List ℕ) (c : Call) → Sound ws → refusal (limits_of can (limit_in ws)) (family_in ws) c ≡ 0 → length (changed (family_in ws) c) ≤ limit_in ws →
+    Valid (changed (family_in ws) c) → later ≡ image (limit_in ws) (changed (family_in ws) c) (rest_in ws) → Served can ws later c (answer_taken (family_in ws) c)
+taken_served can ws later c ok e room valid w =
+    let l = limits_of can (limit_in ws) in
     let f = family_in ws in
     let taken : eqb (refusal l f c) 0 ≡ true = eq-eqb (refusal l f c) 0 e in
     let same : after l f c ≡ changed f c = cond-true _ _ _ taken in

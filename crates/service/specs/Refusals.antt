@@ -1,8 +1,13 @@
 -- The refusals by their numbers and places. Assumes nothing: these are definitions.
-use Rattle.std.specs.Prelude.{ℕ, Ok, Err, Result}
+use Rattle.std.specs.Prelude.{◌≡◌, ℕ, Ok, Err, Result}
 use Rattle.law.specs.Calls.{Answer, refused, number}
+use Rattle.wire.specs.declared.Unreadable as wire
 use Rattle.service.specs.declared.refusal.Refusal.{Refusal}
 use Rattle.service.specs.declared.refusal.Refusal.TheVariants.{Unreadable, NotTaken, TooManyPersons, TooSmall, NotThere, NotAllowed, BeyondLimit}
+
+-- the refusal of bytes that are no call
+abbrev pub IsOf : wire.Unreadable → Refusal → Type 0
+IsOf e r = r ≡ Unreadable e.at
 
 abbrev pub refusal_number : Refusal → ℕ
 refusal_number (Unreadable p) = 1

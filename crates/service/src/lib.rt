@@ -4,6 +4,7 @@
 ghost use Rattle.std.specs.Prelude.{◌≡◌, ℕ, ◌+◌, ◌*◌, ◌<◌, ◌≤◌, true, false, List, length, MatchOption, nat_lt};
 ghost use Rattle.law.specs.Family.{Family, person};
 ghost use Rattle.law.specs.Calls.{born, wed as law_wed, parted, dies, estate_of, dead, with_spouse};
+ghost use Rattle.law.specs.Promise.{all_calls};
 ghost use Rattle.wire.specs.Bytes.{call_of, read};
 ghost use Rattle.people.specs.Layout.{Sound, Roomy, Valid, image, limit_in, count_in};
 ghost use Rattle.people.specs.Persons.{law_person};
@@ -13,19 +14,17 @@ ghost use Rattle.service.specs.Marriages.{may_wed};
 ghost use Rattle.service.specs.Refusals.{outcome, refusal_number, refusal_place};
 ghost use Rattle.service.specs.Service.{Served, Replied, Put, Opened};
 
+pub mod method;
 pub mod refusal;
+pub mod stage;
 
+use method::Method;
 use people::Person;
 use refusal::Refusal;
+use stage::Stage;
 use wire::Request;
 
-// How many persons a register may have room for, and what it asks for: words for each person and more, bytes for each person and more, and bytes at least.
-const MOST_PERSONS: u32 = 4096;
-
-const WORDS_EACH: usize = 16;
-
-const WORDS_MORE: usize = 24576;
-
+// How many bytes a register asks for: for each person and more, and at least.
 const BYTES_EACH: usize = 20;
 
 const BYTES_MORE: usize = 8;
@@ -63,14 +62,14 @@ impl Refusal {
 fn below(count: u32, limit: u32) -> Option<u32>
     ensures cases { MatchOption result (nat_lt count limit ≡ false) (λ k. (nat_lt count limit ≡ true) × (k ≡ count)) }
 {
-    if count < limit { Some(count) } else { None }
+    (count < limit).then_some(count)
 }
 
 // Somebody, if they live.
 fn if_living(someone: Person) -> Option<Person>
     ensures cases { MatchOption result (someone.lives ≡ false) (λ q. (someone.lives ≡ true) × (q ≡ someone)) }
 {
-    if someone.lives { Some(someone) } else { None }
+    someone.lives.then_some(someone)
 }
 
 // Somebody, dead.
@@ -119,7 +118,7 @@ fn wedded(one: u32, first: Person, other: u32, second: Person) -> Option<Couple>
 // A birth: the new person's number.
 fn bear(memory: &mut [u32], mother: u32, father: u32) -> Result<u32, Refusal>
     requires room { Roomy memory.old }
-    ensures served { Sound memory.old → Served memory.old memory.new (born mother father) (outcome result) }
+    ensures served { Sound memory.old → Served all_calls memory.old memory.new (born mother father) (outcome result) }
 {
     let Some(child) = people::newborn(memory[1], mother, father) else {
         return Err(Refusal::NotThere);
@@ -135,7 +134,7 @@ fn bear(memory: &mut [u32], mother: u32, father: u32) -> Result<u32, Refusal>
 // A wedding: the first of the two.
 fn wed(memory: &mut [u32], one: u32, other: u32) -> Result<u32, Refusal>
     requires room { Roomy memory.old }
-    ensures served { Sound memory.old → Served memory.old memory.new (law_wed one other) (outcome result) }
+    ensures served { Sound memory.old → Served all_calls memory.old memory.new (law_wed one other) (outcome result) }
 {
     let Some(first) = people::find(memory, one) else {
         return Err(Refusal::NotThere);
@@ -154,7 +153,7 @@ fn wed(memory: &mut [u32], one: u32, other: u32) -> Result<u32, Refusal>
 // A parting, of the living or the dead: the former spouse.
 fn part(memory: &mut [u32], who: u32) -> Result<u32, Refusal>
     requires room { Roomy memory.old }
-    ensures served { Sound memory.old → Served memory.old memory.new (parted who) (outcome result) }
+    ensures served { Sound memory.old → Served all_calls memory.old memory.new (parted who) (outcome result) }
 {
     let Some(someone) = people::find(memory, who) else {
         return Err(Refusal::NotThere);
@@ -171,7 +170,7 @@ fn part(memory: &mut [u32], who: u32) -> Result<u32, Refusal>
 // A death: who died.
 fn bury(memory: &mut [u32], who: u32) -> Result<u32, Refusal>
     requires room { Roomy memory.old }
-    ensures served { Sound memory.old → Served memory.old memory.new (dies who) (outcome result) }
+    ensures served { Sound memory.old → Served all_calls memory.old memory.new (dies who) (outcome result) }
 {
     let Some(someone) = people::find(memory, who) else {
         return Err(Refusal::NotThere);
@@ -184,37 +183,13 @@ fn bury(memory: &mut [u32], who: u32) -> Result<u32, Refusal>
     Ok(who)
 }
 
-// How an estate is worked out: by passes that visit each person of the lines concerned, or part by part down every way. The answers are the same.
-#[derive(Clone, Copy)]
-pub enum Method {
-    Passes,
-    Parts,
-}
-
-// The shares of the estate of somebody who is dead, written as the answer: how many there are; none where the estate is beyond the limits.
-fn settle_dead(memory: &mut [u32], answer: &mut [u8], who: u32, method: Method) -> Option<u32>
-    requires room { Roomy memory.old }
-    requires there { who < limit_in memory.old }
-    requires bytes { 8 + 20 * limit_in memory.old ≤ length answer.old }
-    ensures limit { limit_in memory.new ≡ limit_in memory.old }
-    ensures count { count_in memory.new ≡ count_in memory.old }
-    ensures settled { (n : ℕ) (f : Family) (rest : List ℕ) → memory.old ≡ image n f rest → DeadThere f n who
-        → EstateSettled n f rest who memory.new answer.old answer.new result }
-{
-    match method {
-        Method::Passes => estates::settle(memory, answer, who),
-        Method::Parts => succession::settle(memory, answer, who),
-    }
-}
-
 // The shares of the estate of somebody who lives, as if they had died now, written as the answer: how many there are; none where the estate is beyond the limits.
 // They are marked dead for it and then living again.
-fn settle_living(
+fn settle_living<M: Method>(
     memory: &mut [u32],
     answer: &mut [u8],
     who: u32,
     someone: Person,
-    method: Method,
 ) -> Option<u32>
     requires room { Roomy memory.old }
     requires there { who < limit_in memory.old }
@@ -224,19 +199,18 @@ fn settle_living(
 {
     people::put(memory, who, buried(someone));
     living::ends(memory, who);
-    let count = settle_dead(memory, answer, who, method);
+    let count = M::settle(memory, answer, who);
     people::put(memory, who, someone);
     living::begins(memory, who);
     count
 }
 
 // The shares of the estate of somebody, living or dead: how many there are; none where the estate is beyond the limits.
-fn settle_any(
+fn settle_any<M: Method>(
     memory: &mut [u32],
     answer: &mut [u8],
     who: u32,
     someone: Person,
-    method: Method,
 ) -> Option<u32>
     requires room { Roomy memory.old }
     requires there { who < limit_in memory.old }
@@ -245,22 +219,22 @@ fn settle_any(
         → EstateSettled n f rest who memory.new answer.old answer.new result }
 {
     if someone.lives {
-        settle_living(memory, answer, who, someone, method)
+        settle_living::<M>(memory, answer, who, someone)
     } else {
-        settle_dead(memory, answer, who, method)
+        M::settle(memory, answer, who)
     }
 }
 
 // An estate: how many bytes its shares have, as the answer.
-fn settle(memory: &mut [u32], answer: &mut [u8], who: u32, method: Method) -> Result<usize, Refusal>
+fn settle<M: Method>(memory: &mut [u32], answer: &mut [u8], who: u32) -> Result<usize, Refusal>
     requires room { Roomy memory.old }
     requires bytes { bytes_asked (limit_in memory.old) ≤ length answer.old }
-    ensures replied { Sound memory.old → Replied memory.old memory.new (estate_of who) answer.old answer.new result }
+    ensures replied { Sound memory.old → Replied all_calls memory.old memory.new (estate_of who) answer.old answer.new result }
 {
     let Some(someone) = people::find(memory, who) else {
         return Err(Refusal::NotThere);
     };
-    let Some(heirs) = settle_any(memory, answer, who, someone, method) else {
+    let Some(heirs) = settle_any::<M>(memory, answer, who, someone) else {
         return Err(Refusal::BeyondLimit);
     };
     Ok(5 + 20 * heirs as usize)
@@ -276,41 +250,53 @@ fn put_number(answer: &mut [u8], reply: Result<u32, Refusal>) -> Result<usize, R
     Ok(5)
 }
 
-// Any call that could be read: how many bytes the answer has.
-fn serve(
+// Any call, by the rules: how many bytes the answer has.
+fn take<M: Method>(
     memory: &mut [u32],
     answer: &mut [u8],
     request: Request,
-    method: Method,
 ) -> Result<usize, Refusal>
     requires room { Roomy memory.old }
     requires bytes { bytes_asked (limit_in memory.old) ≤ length answer.old }
-    ensures replied { Sound memory.old → Replied memory.old memory.new (call_of request) answer.old answer.new result }
+    ensures replied { Sound memory.old → Replied all_calls memory.old memory.new (call_of request) answer.old answer.new result }
 {
     match request {
         Request::Born(mother, father) => put_number(answer, bear(memory, mother, father)),
         Request::Wed(one, other) => put_number(answer, wed(memory, one, other)),
         Request::Parted(who) => put_number(answer, part(memory, who)),
         Request::Dies(who) => put_number(answer, bury(memory, who)),
-        Request::EstateOf(who) => settle(memory, answer, who, method),
+        Request::EstateOf(who) => settle::<M>(memory, answer, who),
     }
 }
 
-// Any row of bytes: how many bytes the answer has, which are written; of a call that is turned away nothing is. Estates are worked out by this method.
-pub fn respond(
+// Any call that could be read, if the stage takes it: how many bytes the answer has.
+fn serve<S: Stage, M: Method>(
     memory: &mut [u32],
     answer: &mut [u8],
-    row: &[u8],
-    method: Method,
+    request: Request,
 ) -> Result<usize, Refusal>
     requires room { Roomy memory.old }
     requires bytes { bytes_asked (limit_in memory.old) ≤ length answer.old }
-    ensures replied { Sound memory.old → Replied memory.old memory.new (read row.now) answer.old answer.new result }
+    ensures replied { Sound memory.old → Replied S.can memory.old memory.new (call_of request) answer.old answer.new result }
 {
-    match wire::decode(row) {
-        Ok(request) => serve(memory, answer, request, method),
-        Err(place) => Err(Refusal::Unreadable(place)),
+    if !S::takes(&request) {
+        return Err(Refusal::NotTaken);
     }
+    take::<M>(memory, answer, request)
+}
+
+// Any row of bytes, at a stage: how many bytes the answer has, which are written; of a call that is turned away nothing is. Estates are worked out by this method.
+pub fn respond<S: Stage, M: Method>(
+    memory: &mut [u32],
+    answer: &mut [u8],
+    row: &[u8],
+) -> Result<usize, Refusal>
+    requires room { Roomy memory.old }
+    requires bytes { bytes_asked (limit_in memory.old) ≤ length answer.old }
+    ensures replied { Sound memory.old → Replied S.can memory.old memory.new (read row.now) answer.old answer.new result }
+{
+    let request = wire::decode(row)?;
+    serve::<S, M>(memory, answer, request)
 }
 
 // How many bytes a register for so many persons asks for.
@@ -324,10 +310,10 @@ pub fn bytes_asked(limit: u32) -> usize
 pub fn prepare(memory: &mut [u32], bytes: usize, limit: u32) -> Result<(), Refusal>
     ensures opened { Opened memory.old memory.new bytes limit result }
 {
-    if limit > MOST_PERSONS {
+    if limit > people::MOST_PERSONS {
         return Err(Refusal::TooManyPersons);
     }
-    let words = WORDS_MORE + WORDS_EACH * limit as usize;
+    let words = people::words_asked(limit);
     if memory.len() < words || bytes < bytes_asked(limit) {
         return Err(Refusal::TooSmall);
     }

@@ -1,4 +1,5 @@
 // Why a call is turned away, or a register is not opened.
+use wire::Unreadable;
 
 #[derive(Clone, Copy, PartialEq, Eq, Debug)]
 pub enum Refusal {
@@ -16,4 +17,14 @@ pub enum Refusal {
     NotAllowed,
     // more persons than the limit, or an estate beyond the limits
     BeyondLimit,
+}
+
+impl From<Unreadable> for Refusal {
+    ghost use Rattle.service.specs.Refusals.{IsOf};
+
+    ghost from_gives = { IsOf };
+
+    fn from(unreadable: Unreadable) -> Refusal {
+        Refusal::Unreadable(unreadable.at)
+    }
 }

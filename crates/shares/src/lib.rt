@@ -18,18 +18,21 @@ ghost use Rattle.shares.specs.Work.{part_words, word_part, part_in, parts_in, wo
 
 use wire::Share;
 
+// How many words a row of parts lies in.
+pub const PARTS_WORDS: usize = 8192;
+
 // Where the set of heirs lies in the work area, how many words it has, and where the pieces of the persons lie.
-const HEIRS: usize = 8192;
+pub const HEIRS: usize = PARTS_WORDS;
 
 const HEIRS_WORDS: usize = 128;
 
-const PIECES: usize = 8320;
+pub const PIECES: usize = HEIRS + HEIRS_WORDS;
 
 // The most parts that an estate is divided into.
-const MOST_PARTS: u64 = 4096;
+pub const MOST_PARTS: u32 = 4096;
 
 // A part: who has it, and one by how many of the estate it is.
-#[derive(Clone, Copy)]
+#[derive(Clone, Copy, Debug, PartialEq, Eq)]
 pub struct Part {
     pub who: u32,
     pub by: u32,
@@ -39,12 +42,9 @@ pub struct Part {
 pub fn gcd(a: u64, b: u64) -> u64
     ensures value { result ≡ law_gcd a b }
 {
-    let mut x = a;
-    let mut y = b;
+    let (mut x, mut y) = (a, b);
     while y != 0 {
-        let rest = x % y;
-        x = y;
-        y = rest;
+        (x, y) = (y, x % y);
     }
     x
 }
@@ -54,17 +54,10 @@ pub fn reduce(who: u32, pieces: u64, whole: u64) -> Share
     ensures value { law_share result ≡ lowest_share whole pieces who }
 {
     let divisor = gcd(pieces, whole);
-    if divisor == 0 {
-        return Share {
-            who,
-            up: 0,
-            down: 0,
-        };
-    }
     Share {
         who,
-        up: pieces / divisor,
-        down: whole / divisor,
+        up: pieces.checked_div(divisor).unwrap_or(0),
+        down: whole.checked_div(divisor).unwrap_or(0),
     }
 }
 
@@ -92,35 +85,26 @@ pub fn part_at(work: &[u32], index: u32) -> Part
 pub fn multiple(number: u32, by: u32) -> Option<u32>
     ensures value { result ≡ word_number (lcm number by) }
 {
-    if by == 0 {
+    let (number, by) = (u64::from(number), u64::from(by));
+    let product = number.checked_div(gcd(number, by))? * by;
+    if product == 0 {
         return None;
     }
-    let product = u64::from(number) / gcd(u64::from(number), u64::from(by)) * u64::from(by);
-    if product == 0 || product > u64::from(u32::MAX) {
-        return None;
-    }
-    Some(product as u32)
+    u32::try_from(product).ok()
 }
 
 // How many parts are listed: one that stands first, and a row of which each counts so many times.
 pub fn parts_listed(lead: Option<Part>, times: u32, count: u32) -> u64
     ensures value { result ≡ length (lead_parts lead) + times * count }
 {
-    let row = u64::from(times) * u64::from(count);
-    match lead {
-        Some(_) => 1 + row,
-        None => row,
-    }
+    u64::from(lead.is_some()) + u64::from(times) * u64::from(count)
 }
 
 // The least number that a part divides that stands first, if there is one.
 pub fn lead_multiple(lead: Option<Part>) -> Option<u32>
     ensures value { result ≡ word_number (common_multiple (lead_parts lead) 1) }
 {
-    match lead {
-        Some(part) => multiple(1, part.by),
-        None => Some(1),
-    }
+    lead.map_or(Some(1), |part| multiple(1, part.by))
 }
 
 // The least number that all parts divide; none where they are more than 4,096, as they are listed, or that number is 2 to the 32nd or more.
@@ -129,7 +113,7 @@ pub fn whole(work: &[u32], lead: Option<Part>, times: u32, count: u32) -> Option
     requires room { 2 * count ≤ length work.now }
     ensures value { result ≡ number_of (whole_row lead times (parts_in work.now 0 count)) }
 {
-    if parts_listed(lead, times, count) > MOST_PARTS {
+    if parts_listed(lead, times, count) > u64::from(MOST_PARTS) {
         return None;
     }
     let mut number = lead_multiple(lead)?;
@@ -146,10 +130,7 @@ pub fn whole(work: &[u32], lead: Option<Part>, times: u32, count: u32) -> Option
 pub fn amount(times: u32, whole: u32, by: u32) -> u64
     ensures value { result ≡ times * (whole / by) }
 {
-    if by == 0 {
-        return 0;
-    }
-    u64::from(times) * u64::from(whole / by)
+    u64::from(times) * u64::from(whole.checked_div(by).unwrap_or(0))
 }
 
 // Adds to somebody's pieces, and makes them an heir. Leaves out what is past the last person or doesn't fit a word: a row of an estate has no such parts.
@@ -162,10 +143,13 @@ pub fn add_pieces(work: &mut [u32], persons: u32, who: u32, more: u64)
         return;
     }
     let at = PIECES + who as usize;
-    if more > u64::from(u32::MAX - work[at]) {
+    let Ok(more) = u32::try_from(more) else {
         return;
-    }
-    work[at] += more as u32;
+    };
+    let Some(sum) = work[at].checked_add(more) else {
+        return;
+    };
+    work[at] = sum;
     bits::insert(work, HEIRS, who);
 }
 
@@ -267,15 +251,11 @@ pub fn settle(
 }
 
 // Shares that are as the parts are come to as much together as the parts.
-pub fn shares_together() -> u8
+pub fn shares_together()
     ensures holds { SharesTogether }
-{
-    0
-}
+{}
 
 // What is settled is right: shares are as the parts are, and all together are one where all parts are the estate.
-pub fn settled_right() -> u8
+pub fn settled_right()
     ensures holds { SettledRight }
-{
-    0
-}
+{}

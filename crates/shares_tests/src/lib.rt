@@ -7,6 +7,7 @@ ghost use Rattle.std.specs.Prelude.{◌+◌, ◌*◌, ◌<◌, ◌≤◌, length
 mod tests {
     use shares::{Part, put_part, settle};
     use std::test::Fail;
+    use wire::Share;
 
     // A row of so many parts, all by the same number, that so many heirs have in turn. Each part counts so many times.
     #[derive(Clone, Copy)]
@@ -34,31 +35,21 @@ mod tests {
                 },
             );
         }
-        let first = match lead {
-            Some(by) => Some(Part { who: 3, by }),
-            None => None,
-        };
+        let first = lead.map(|by| Part { who: 3, by });
         settle(work, answer, 4, first, row.times, row.count)
     }
 
     // Says whether every word is 0.
     fn all_zero(work: &[u32]) -> bool {
-        for word in work {
-            if *word != 0 {
-                return false;
-            }
-        }
-        true
+        work.iter().all(|word| *word == 0)
     }
 
     // Says whether the share with an index, of so many in the answer, is somebody's, one by so many.
     fn is_share(answer: &[u8], count: u32, index: u32, who: u32, down: u64) -> bool
         requires bytes { 5 + 20 * count ≤ length answer.now }
     {
-        match wire::read_share(&answer[0..5 + 20 * count as usize], index) {
-            Some(share) => share.who == who && share.up == 1 && share.down == down,
-            None => false,
-        }
+        let share = wire::read_share(&answer[0..5 + 20 * count as usize], index);
+        share == Some(Share { who, up: 1, down })
     }
 
     #[test]

@@ -1,4 +1,6 @@
 pub mod Lines
+pub mod Starts
+pub mod Walks
 pub mod Grandparents
 pub mod Inheriting
 pub mod Spouses

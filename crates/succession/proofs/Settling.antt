@@ -1,14 +1,21 @@
 -- Settling an estate in memory: the row that is settled, and what is left where it is beyond the limits and where it is within them. Assumes nothing.
-use Rattle.std.proofs.Common.{◌≡◌, ℕ, zero, suc, ◌+◌, ◌-◌, ◌*◌, ◌<◌, ◌≤◌, Bool, false, cond, ◌⊎◌, List, [], ◌++◌, map, length, take, drop, replicate, Some, None, Option, sym, refl, ap, ◌∙◌, subst, inl, inr, arith, MatchOption}
+use Rattle.std.proofs.Common.{◌≡◌, ℕ, zero, suc, ◌+◌, ◌-◌, ◌*◌, ◌<◌, ◌≤◌, Bool, false, cond, ◌⊎◌, List, [], ◌++◌, map, length, take, drop, replicate, Some, None, Option, sym, refl, ap, ◌∙◌, subst, inl, inr, arith}
 use borrow.Rule.Slice.PartMut.{put_mid}
-use Rattle.std.specs.List.{range_with_len}
+use Rattle.std.specs.List.{range_with_len, AllByRecursion}
 use Rattle.std.proofs.lemmas.List.{append_assoc, append-nil, length-append}
 use Rattle.std.proofs.lemmas.Bool.{cond-false, and_left, and_right, not_from_true, eq-eqb, lt-leb}
 use Rattle.law.specs.Family.{Family, Part, person, repeated, estate}
 use Rattle.law.specs.Calls.{common_multiple, shares}
 use Rattle.rows.specs.Written.{written}
 use Rattle.rows.proofs.Regions.{region_part, region_put}
-use Rattle.theory.specs.Families.{WellFormed}
+use Rattle.theory.specs.Families.{Ranked, WellFormed}
+use Rattle.theory.specs.Decedent.{kept_relatives}
+use Rattle.theory.proofs.Lists.{all_both}
+use Rattle.amounts.specs.Lines.{kept_starts, starts_parts}
+use Rattle.amounts.specs.Estates.{relatives_number}
+use Rattle.amounts.specs.Statements.{StartsRight}
+use Rattle.amounts.proofs.Orders.{kept_starts_parts, starts_right}
+use Rattle.succession.proofs.Spouses.{number_some}
 use Rattle.theory.specs.Living.{alive}
 use Rattle.theory.specs.Shares.{shares_of}
 use Rattle.wire.specs.Bytes.{answer_bytes}
@@ -44,26 +51,17 @@ pub begun_none : (ws : List ℕ) (n : ℕ) (f : Family) (rest : List ℕ) (who :
 begun_none ws n f rest who e d =
     record { words = e ∙ no_parts n f rest; parts = refl; few = omega arith; room = d.room; ranked = d.formed.ranked }
 
--- a count that is cut off where it is too large: parts that went in are never so many
-pub cut_none :
-    (n : ℕ) (f : Family) (spare rest : List ℕ) (row : List Part) (mem : List ℕ) (r : Option ℕ) → MatchOption r (◌≡◌ {A = Option ℕ} None r) (λ k. k ≤ 4096 → ◌≡◌ {A = Option ℕ} None r) →
-    Gone n f spare rest [] row mem r → Gone n f spare rest [] row mem None
-cut_none n f spare rest row mem None v g = g
-cut_none n f spare rest row mem (Some k) v g =
-    let is = g.0 in
-    let few = g.1 in
-    let e = v (omega arith) in
-    let x : ◌≡◌ {A = ℕ} 0 1 = cc in
-    absurd (omega arith)
+-- the lines that the estate begins with are there, and their parts are those of the relatives
+pub starts_there : (f : Family) (rk : ℕ → ℕ) (who by : ℕ) (row : List Part) → Ranked f rk → by ≡ relatives_number f who → row ≡ kept_starts f who by → AllByRecursion (λ q. q.who < length f) row
+unfolding StartsRight
+starts_there f rk who by row ranked e is =
+    let right = starts_right f rk who by ranked (subst (λ (k : ℕ). 0 < k) (sym e) (number_some f who)) in
+    subst (AllByRecursion (λ (q : Part). q.who < length f)) (sym is) (all_both _ _ (λ (q : Part). q.who < length f) (λ q h l. h.1) (kept_starts f who by) right.1 right.1)
 
-pub cut_some :
-    (n : ℕ) (f : Family) (spare rest : List ℕ) (row : List Part) (mem : List ℕ) (count : ℕ) (r : Option ℕ) → MatchOption r (Some count ≡ r) (λ k. k ≤ 4096 → Some count ≡ r) →
-    Gone n f spare rest [] row mem r → Gone n f spare rest [] row mem (Some count)
-cut_some n f spare rest row mem count None v g = let x : ◌≡◌ {A = ℕ} 0 1 = cc in absurd (omega arith)
-cut_some n f spare rest row mem count (Some k) v g =
-    let is = g.0 in
-    let few = g.1 in
-    subst (λ r. Gone n f spare rest [] row mem r) (sym (v (omega arith))) g
+pub gone_relatives :
+    (n : ℕ) (f : Family) (spare rest : List ℕ) (who by : ℕ) (row : List Part) (mem : List ℕ) (r : Option ℕ) → row ≡ kept_starts f who by → Gone n f spare rest [] (starts_parts f row) mem r →
+    Gone n f spare rest [] (kept_relatives f who by) mem r
+gone_relatives n f spare rest who by row mem r is = subst (λ ps. Gone n f spare rest [] ps mem r) (ap (starts_parts f) is ∙ kept_starts_parts f who by)
 
 -- rows beyond the limits
 many_repeated : (k : ℕ) (ps : List Part) → 0 < k → length ps ≤ length (repeated k ps)

@@ -1,10 +1,11 @@
 -- A living spouse, and the estate beside one. Assumes nothing.
-use Rattle.std.proofs.Common.{◌≡◌, ℕ, suc, ◌-◌, Bool, true, false, cond, eqb, List, [], ◌∷◌, ◌++◌, Some, None, sym, refl, ap, ◌∙◌, ⊎_elim, arith}
+use Rattle.std.proofs.Common.{◌≡◌, ℕ, suc, ◌-◌, Bool, true, false, cond, eqb, List, [], ◌∷◌, ◌++◌, Some, None, sym, refl, ap, ◌∙◌, ⊎_elim, arith, ◌<◌, ◌≤◌, ◌⊎◌, Option, MatchOption}
+use Rattle.std.specs.Bool.{then_some}
 use Rattle.std.proofs.lemmas.List.{append-nil}
 use Rattle.std.proofs.lemmas.Bool.{cases_Bool, cond-true, cond-false, and_from, and_left, and_right, not_from_true, not_from_false, eq-eqb, ne_eqb}
 use Rattle.law.specs.Family.{Family, Part, person, has_living_spouse, spouse_parts, repeated}
 use Rattle.theory.specs.Decedent.{kept_order, kept_relatives, kept_estate}
-use Rattle.amounts.specs.Estates.{relatives_number, relatives_times, spouse_lead}
+use Rattle.amounts.specs.Estates.{relatives_number}
 use Rattle.shares.specs.Parts.{whole_row}
 use Rattle.succession.specs.Orders.{spouse_in}
 use Rattle.succession.proofs.Inheriting.{relatives_none}
@@ -25,6 +26,18 @@ spouse_lives f d w e h =
     ap (λ i. Some i) (sym z)
     ∙ sym (cond-true (has_living_spouse f d) (Some ((person f d).spouse - 1)) None
     (and_from _ _ (not_from_false _ (ne_eqb (person f d).spouse 0 (λ q. omega arith))) (ap (λ i. (person f i).lives) z ∙ h)))
+
+-- the spouse who is found within the limit, where a test says who lives
+pub spouse_found :
+    (f : Family) (d limit link : ℕ) (o r : Option ℕ) {P : ℕ → Bool → Type 0} → link ≡ (person f d).spouse → link ≤ limit →
+    MatchOption o ((link ≡ 0) ⊎ (limit < link)) (λ p. (link ≡ suc p) × (p < limit)) → MatchOption o (r ≡ None) (λ p. (b : Bool) × P p b × (r ≡ then_some b p)) →
+    ((p : ℕ) (b : Bool) → p < limit → P p b → b ≡ (person f p).lives) → r ≡ spouse_in f d
+spouse_found f d limit link None r is le met said says = said ∙ spouse_none f d (sym is ∙ ⊎_elim (λ z. z) (λ z. absurd (omega arith)) met)
+spouse_found f d limit link (Some p) r is le met said says = said.2 ∙ go said.0 (says p said.0 met.1 said.1)
+  where
+    go : (b : Bool) → b ≡ (person f p).lives → then_some b p ≡ spouse_in f d
+    go true e = spouse_lives f d p (sym is ∙ met.0) (sym e)
+    go false e = spouse_dead f d p (sym is ∙ met.0) (sym e)
 
 no_spouse : (f : Family) (d : ℕ) → None ≡ spouse_in f d → has_living_spouse f d ≡ false
 no_spouse f d e =
@@ -56,10 +69,6 @@ beside f d w o e is = cond-true (has_living_spouse f d) (by_order f d (kept_orde
 lead_is : (f : Family) (d w b : ℕ) → Some w ≡ spouse_in f d → record { who = w; by = b } ∷ [] ≡ spouse_parts f d b
 lead_is f d w b e = ap (λ i. record { who = i; by = b } ∷ []) (some_spouse f d w e).1
 
-pub beside_children : (f : Family) (d w : ℕ) → Some w ≡ spouse_in f d → 1 ≡ kept_order f d → whole_row (Some (record { who = w; by = 4 })) 3 (kept_relatives f d 4) ≡ kept_estate f d
-unfolding by_order
-beside_children f d w e is = ap (λ r. r ++ repeated 3 (kept_relatives f d 4)) (lead_is f d w 4 e) ∙ sym (beside f d w 1 e is)
-
 pub beside_nobody : (f : Family) (d w : ℕ) → Some w ≡ spouse_in f d → 4 ≡ kept_order f d → whole_row (Some (record { who = w; by = 1 })) 1 (kept_relatives f d 1) ≡ kept_estate f d
 unfolding by_order repeated
 beside_nobody f d w e is =
@@ -78,23 +87,12 @@ pub beside_grandparents : (f : Family) (d w : ℕ) → Some w ≡ spouse_in f d 
 unfolding by_order
 beside_grandparents f d w e is = beside_half f d w 3 e is refl
 
--- by how many the relatives go, how often their parts count, and what the spouse has
-abbrev Numbers : Family → ℕ → ℕ → ℕ → List Part → Type 0
-Numbers f d by times lead = (by ≡ relatives_number f d) × (times ≡ relatives_times f d) × (lead ≡ spouse_lead f d)
-
-by_numbers : (f : Family) (d : ℕ) (h : Bool) (o : ℕ) → has_living_spouse f d ≡ h → o ≡ kept_order f d →
-    Numbers f d (cond h (cond (eqb o 1) 4 (cond (eqb o 4) 1 2)) 1) (cond h (cond (eqb o 1) 3 1) 1) (cond h (spouse_parts f d (cond h (cond (eqb o 1) 4 (cond (eqb o 4) 1 2)) 1)) [])
-by_numbers f d h o e is = (
-  λ i. cond (sym e i) (cond (eqb (is i) 1) 4 (cond (eqb (is i) 4) 1 2)) 1,
-  λ i. cond (sym e i) (cond (eqb (is i) 1) 3 1) 1,
-  λ i. cond (sym e i) (spouse_parts f d (cond (sym e i) (cond (eqb (is i) 1) 4 (cond (eqb (is i) 4) 1 2)) 1)) [],
-)
-
-pub numbers_alone : (f : Family) (d o : ℕ) → None ≡ spouse_in f d → o ≡ kept_order f d → Numbers f d 1 1 []
-numbers_alone f d o e is = by_numbers f d false o (no_spouse f d e) is
-
-pub numbers_beside : (f : Family) (d w o by times : ℕ) → Some w ≡ spouse_in f d → o ≡ kept_order f d → by ≡ cond (eqb o 1) 4 (cond (eqb o 4) 1 2) → times ≡ cond (eqb o 1) 3 1 →
-    Numbers f d by times (record { who = w; by = by } ∷ [])
-numbers_beside f d w o by times e is b t =
-    let n = by_numbers f d true o (some_spouse f d w e).0 is in
-    (b ∙ n.0, t ∙ n.1, lead_is f d w by e ∙ ap (spouse_parts f d) b ∙ n.2)
+-- by how many the relatives go
+pub number_some : (f : Family) (d : ℕ) → 0 < relatives_number f d
+number_some f d = go (has_living_spouse f d) (eqb (kept_order f d) 1) (eqb (kept_order f d) 4)
+  where
+    go : (h x y : Bool) → 0 < cond h (cond x 4 (cond y 1 2)) 1
+    go true true y = omega arith
+    go true false true = omega arith
+    go true false false = omega arith
+    go false x y = omega arith

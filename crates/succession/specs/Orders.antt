@@ -1,7 +1,6 @@
 -- The orders of succession as the code goes by them. Assumes nothing: these are definitions.
-use Rattle.std.specs.Prelude.{◌≡◌, ℕ, zero, suc, ◌-◌, ◌*◌, ◌≤◌, Bool, false, cond, List, ◌++◌, length, Some, None, filter, Option}
-use Rattle.std.specs.List.{flat_map}
-use Rattle.law.specs.Family.{Family, Part, person, known, parents, couple_parts, side_lives, has_living_spouse}
+use Rattle.std.specs.Prelude.{◌≡◌, ℕ, zero, suc, ◌-◌, ◌≤◌, Bool, false, cond, List, ◌++◌, length, Some, None, Option}
+use Rattle.law.specs.Family.{Family, Part, person, known, has_living_spouse}
 use Rattle.theory.specs.Families.{Ranked}
 use Rattle.descent.specs.Going.{with_parts}
 use Rattle.succession.specs.declared.Order.{Order}
@@ -40,8 +39,3 @@ pub record Begun (ws : List ℕ) (n : ℕ) (f : Family) (rk : ℕ → ℕ) (ps :
   pub few : length ps ≤ 4096
   pub room : length f ≤ n
   pub ranked : Ranked f rk
-
--- the parts of those sides on which a line lives
-abbrev pub sides_parts : Family → List ℕ → ℕ → List Part
-sides_parts f ps b =
-    flat_map (λ p. couple_parts f (length f) (parents f p) (b * length (filter (λ q. side_lives f (length f) q) ps))) (filter (λ q. side_lives f (length f) q) ps)

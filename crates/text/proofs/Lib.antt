@@ -1,7 +1,9 @@
 pub mod Places
 pub mod Collecting
+pub mod FirstLines
 pub mod Persons
 pub mod Spouses
+pub mod Failing
 pub mod Printed
 pub mod Builds
 pub mod ReadValid

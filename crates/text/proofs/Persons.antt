@@ -1,13 +1,26 @@
 -- The persons of lines, one after the other. Assumes nothing.
-use Rattle.std.proofs.Common.{◌≡◌, ℕ, ◌+◌, ◌<◌, ◌≤◌, Bool, true, false, not, ◌&&◌, eqb, List, [], ◌∷◌, ◌++◌, length, get_or, drop, Ok, Err, Result, sym, ap, ◌∙◌}
+use Rattle.std.proofs.Common.{◌≡◌, ℕ, ◌+◌, ◌<◌, ◌≤◌, Bool, true, false, not, ◌&&◌, eqb, ◌≢◌, List, [], ◌∷◌, ◌++◌, length, get_or, drop, Ok, Err, Result, sym, refl, ap, ◌∙◌}
 use Rattle.std.proofs.lemmas.List.{drop_more, drop_all}
-use Rattle.std.proofs.lemmas.Bool.{cond-true, cond-false}
+use Rattle.std.proofs.lemmas.Bool.{cond-true, cond-false, and_from, eq-eqb, ne_eqb}
 use Rattle.law.specs.Family.{Person, Family}
 use Rattle.lines.specs.Grammar.{Line}
 use Rattle.text.specs.declared.Reason.{Reason}
 use Rattle.text.specs.declared.Reason.TheVariants.{SameParents}
 use Rattle.text.specs.declared.Fault.{Fault}
 use Rattle.text.specs.Reading.{fault, person_with, person_made, person_of, persons_in}
+
+-- whether a mother who is known is the father
+pub one_person : (a b : ℕ) → a ≢ 0 → a ≡ b → true ≡ (not (eqb a 0) && eqb a b)
+one_person a b h e = sym (and_from (not (eqb a 0)) (eqb a b) (ap not (ne_eqb a 0 h)) (eq-eqb a b e))
+
+pub other_persons : (a b : ℕ) → a ≢ b → false ≡ (not (eqb a 0) && eqb a b)
+other_persons a b h = by (eqb a 0) (eqb a b) (ne_eqb a b h) where
+  by : (s t : Bool) → t ≡ false → false ≡ (not s && t)
+  by true t e = refl
+  by false t e = sym e
+
+pub no_person : (a b : ℕ) → a ≡ 0 → false ≡ (not (eqb a 0) && eqb a b)
+no_person a b e = sym (ap (λ (s : Bool). not s && eqb a b) (eq-eqb a 0 e))
 
 -- what parents and a spouse make
 module _ (m f s : Result ℕ Reason) (died : Bool) where

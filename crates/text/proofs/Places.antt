@@ -1,12 +1,35 @@
 -- The number of whoever has a name. Assumes nothing.
-use Rattle.std.proofs.Common.{◌≡◌, ℕ, suc, ◌+◌, ◌<◌, ◌≤◌, Bool, true, false, List, [], ◌∷◌, length, get_or, drop, Some, None, Option, sym, refl, ap, ◌∙◌, arith}
+use Rattle.std.proofs.Common.{◌≡◌, ℕ, suc, ◌+◌, ◌<◌, ◌≤◌, Bool, true, false, cond, not, ltb, List, [], ◌∷◌, length, get_or, drop, map, Some, None, Option, sym, refl, ap, ◌∙◌, inl, inr, arith}
 use Rattle.std.proofs.lemmas.List.{drop_more, drop_all, get_or-map, length-map}
-use Rattle.std.proofs.lemmas.Bool.{cond-true, cond-false}
+use Rattle.std.proofs.lemmas.Bool.{cond-true, cond-false, lt-ltb, le-ltb, cases_lt}
 use Rattle.std.specs.Option.{option_map}
+use Rattle.std.specs.List.{position, position_or_len}
 use Rattle.std.specs.Str.{bytes_eq}
 use Rattle.lines.specs.Grammar.{said_by}
 use Rattle.lines.specs.declared.Entry.{Entry}
 use Rattle.text.specs.Reading.{names_of, said_in, place_of}
+
+-- one element more in front
+step : (t : Bool) (k l : ℕ) (o : Option ℕ) → cond (ltb k l) (Some k) None ≡ o
+    → cond (ltb (cond (not t) (1 + k) 0) (suc l)) (Some (cond (not t) (1 + k) 0)) None ≡ cond t (Some 0) (option_map suc o)
+step true k l o e = cond-true (ltb 0 (suc l)) (Some 0) None (lt-ltb 0 (suc l) (omega arith))
+step false k l o e =
+    let more : 1 + k ≡ suc k = omega arith in
+    elim (cases_lt k l) [
+      | inl h ↦ cond-true (ltb (1 + k) (suc l)) (Some (1 + k)) None (lt-ltb (1 + k) (suc l) (omega arith))
+          ∙ (ap Some more ∙ ap (option_map suc) (sym (cond-true (ltb k l) (Some k) None (lt-ltb k l h)) ∙ e))
+      | inr h ↦ cond-false (ltb (1 + k) (suc l)) (Some (1 + k)) None (le-ltb (1 + k) (suc l) (omega arith))
+          ∙ ap (option_map suc) (sym (cond-false (ltb k l) (Some k) None (le-ltb k l h)) ∙ e)
+    ]
+
+-- what a search among elements by the names that they have says
+pub place_by_position : {A : Type 0} (f : A → List ℕ) (n : List ℕ) (xs : List A) → position (λ x. bytes_eq (f x) n) xs ≡ place_of n (map f xs)
+place_by_position f n [] = refl
+place_by_position f n (x ∷ xs) = step (bytes_eq (f x) n) (position_or_len (λ y. bytes_eq (f y) n) xs) (length xs) (place_of n (map f xs)) (place_by_position f n xs)
+
+pub names_said : (es : List Entry) → map (λ (e : Entry). e.name.now) es ≡ names_of (said_in es)
+names_said [] = refl
+names_said (e ∷ es) = ap (λ (ns : List (List ℕ)). e.name.now ∷ ns) (names_said es)
 
 abbrev pub from : ℕ → Option ℕ → Option ℕ
 from i o = option_map (λ k. k + i) o

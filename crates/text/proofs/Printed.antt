@@ -1,9 +1,10 @@
 -- What is printed of persons, one after the other. Assumes nothing.
-use Rattle.std.proofs.Common.{◌≡◌, ℕ, zero, suc, ◌+◌, ◌-◌, ◌<◌, ◌≤◌, min, List, [], ◌∷◌, ◌++◌, length, get_or, drop, Some, None, sym, refl, ap, ◌∙◌, inl, inr, arith, Bor}
-use Rattle.std.proofs.lemmas.List.{append-nil, append_assoc, drop_more, drop_all, get_or-map, length-map}
+use Rattle.std.proofs.Common.{◌≡◌, ℕ, zero, suc, ◌+◌, ◌-◌, ◌<◌, ◌≤◌, min, List, [], ◌∷◌, ◌++◌, length, get_or, drop, Some, None, sym, refl, ap, ◌∙◌, inl, inr, arith}
+use Rattle.std.proofs.lemmas.List.{append-nil, append_assoc, drop_more, drop_all, get_or-map}
 use Rattle.std.proofs.lemmas.Bool.{cases_lt}
 use Rattle.law.specs.Family.{Family, nobody}
-use Rattle.text.specs.Households.{bytes_of}
+use Rattle.text.specs.declared.Member.{Member}
+use Rattle.text.specs.Households.{names_in}
 use Rattle.text.specs.Printing.{name_from, name_at, line_for, lines_for, row, text_lines}
 
 pub name_past : (ns : List (List ℕ)) (k : ℕ) → length ns ≤ k → None ≡ name_from ns k
@@ -16,20 +17,12 @@ name_there [] k h = absurd (omega arith)
 name_there (n ∷ ns) zero h = refl
 name_there (n ∷ ns) (suc k) h = name_there ns k (omega arith)
 
-name_less : (ns : List (List ℕ)) (m : ℕ) → 0 < m → name_from ns (m - 1) ≡ name_at ns m
+pub name_less : (ns : List (List ℕ)) (m : ℕ) → 0 < m → name_from ns (m - 1) ≡ name_at ns m
 name_less ns zero h = absurd (omega arith)
 name_less ns (suc k) h = let e : suc k - 1 ≡ k = omega arith in ap (name_from ns) e
 
-pub no_name_at : (ns : List (List ℕ)) (m : ℕ) → 0 < m → length ns < m → None ≡ name_at ns m
-no_name_at ns m h l = name_past ns (m - 1) (omega arith) ∙ name_less ns m h
-
-pub some_name_at : (rs : List (Bor (List ℕ))) (m : ℕ) (d : Bor (List ℕ)) → 0 < m → m ≤ length rs → Some (get_or rs (m - 1) d).now ≡ name_at (bytes_of rs) m
-some_name_at rs m d h l =
-    let there : m - 1 < length rs = omega arith in
-    ap Some (sym (get_or-map (λ n. n.now) rs (m - 1) d [] there)) ∙ (name_there (bytes_of rs) (m - 1) (omega (arith, length-map rs (λ (n : Bor (List ℕ)). n.now))) ∙ name_less (bytes_of rs) m h)
-
-pub name_taken : (rs : List (Bor (List ℕ))) (d : Bor (List ℕ)) (k : ℕ) → k < length rs → get_or (bytes_of rs) k [] ≡ (get_or rs k d).now
-name_taken rs d k h = get_or-map (λ n. n.now) rs k d [] h
+pub name_taken : (ms : List Member) (d : Member) (k : ℕ) → k < length ms → get_or (names_in ms) k [] ≡ (get_or ms k d).name.now
+name_taken ms d k h = get_or-map (λ (m : Member). m.name.now) ms k d [] h
 
 module _ (ns : List (List ℕ)) (f : Family) (text whole : List ℕ) (i : ℕ) where
   pub printed_more : (later : List ℕ) → i < length ns → i < length f → later ≡ text ++ row (line_for ns (get_or ns i []) (get_or f i nobody)) →

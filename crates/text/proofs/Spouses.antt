@@ -1,22 +1,23 @@
 -- Spouses who answer. Assumes nothing.
-use Rattle.std.proofs.Common.{◌≡◌, ℕ, zero, suc, ◌+◌, ◌-◌, ◌<◌, ◌≤◌, false, cond, eqb, ◌≢◌, List, [], ◌∷◌, map, length, get_or, set, Ok, Err, Result, sym, refl, ap, ◌∙◌, arith}
+use Rattle.std.proofs.Common.{◌≡◌, ℕ, zero, suc, ◌+◌, ◌-◌, ◌<◌, ◌≤◌, false, cond, eqb, ◌≢◌, List, [], ◌∷◌, length, get_or, set, Ok, Err, Result, sym, refl, ap, ◌∙◌, arith}
 use Rattle.std.proofs.lemmas.List.{get_or_past, set_past}
 use Rattle.std.proofs.lemmas.Bool.{eq-eqb, ne_eqb, cond-true, cond-false}
 use Rattle.law.specs.Family as law
 use Rattle.law.specs.Family.{person, nobody}
 use Rattle.law.specs.Calls.{with_spouse}
 use Rattle.people.specs.Persons.{law_person}
-use Rattle.people.specs.declared.Person.{Person}
+use Rattle.text.specs.declared.Member.{Member}
+use Rattle.text.specs.Households.{persons_of}
 use Rattle.text.specs.declared.Reason.{Reason}
 use Rattle.text.specs.declared.Reason.TheVariants.{SecondSpouse}
 use Rattle.text.specs.declared.Fault.{Fault}
 use Rattle.text.specs.Reading.{fault, answered, agreed}
 
 -- past the last person of the code stands nobody, too
-abbrev pub nobody_there : Person
-nobody_there = record { mother = 0; father = 0; lives = false; spouse = 0 }
+abbrev pub nobody_there : Member
+nobody_there = record { name = record { ref_ptr = (0, 0); now = [] }; person = record { mother = 0; father = 0; lives = false; spouse = 0 } }
 
-pub person_there : (ps : List Person) (i : ℕ) → person (map law_person ps) i ≡ law_person (get_or ps i nobody_there)
+pub person_there : (ms : List Member) (i : ℕ) → person (persons_of ms) i ≡ law_person (get_or ms i nobody_there).person
 person_there [] i = refl
 person_there (p ∷ ps) zero = refl
 person_there (p ∷ ps) (suc i) = person_there ps i

@@ -1,10 +1,10 @@
 -- A family whose persons have names. Assumes nothing: these are definitions.
 use Rattle.std.specs.Prelude.{◌≡◌, ℕ, suc, ◌<◌, ◌≤◌, true, ◌≢◌, List, [], map, length, vec_items, slice_index_or}
-use Rattle.std.specs.Borrow.{Bor}
 use Rattle.law.specs.Family as law
 use Rattle.law.specs.Family.{person}
 use Rattle.people.specs.Persons.{law_person}
 use Rattle.lines.specs.Names.{is_name}
+use Rattle.text.specs.declared.Member.{Member}
 use Rattle.text.specs.declared.Family.{Family}
 
 -- The names of persons, by number, and the persons.
@@ -13,11 +13,14 @@ pub record Household : Type 0 where
   pub family : law.Family
 
 -- what a family of the code is
-abbrev pub bytes_of : List (Bor (List ℕ)) → List (List ℕ)
-bytes_of ns = map (λ n. n.now) ns
+abbrev pub names_in : List Member → List (List ℕ)
+names_in ms = map (λ m. m.name.now) ms
+
+abbrev pub persons_of : List Member → law.Family
+persons_of ms = map (λ m. law_person m.person) ms
 
 abbrev pub household : Family → Household
-household f = record { names = bytes_of (vec_items f.names); family = map law_person (vec_items f.persons) }
+household f = record { names = names_in (vec_items f.members); family = persons_of (vec_items f.members) }
 
 -- Parents are born before their children and are two persons, and spouses are there, are each other's, and nobody is their own.
 -- Past the last person stands nobody, so that this is said of every number.

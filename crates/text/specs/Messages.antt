@@ -1,6 +1,9 @@
 -- What is told of a line that is refused. Assumes nothing: these are definitions.
-use Rattle.std.specs.Prelude.{ℕ, zero, suc, List, [], Some, None, codes, Option}
+use Rattle.std.specs.Prelude.{ℕ, zero, suc, List, [], ◌++◌, Some, None, codes, decimal, Option}
 use Rattle.lines.specs.Words.{Halves, cut}
+use Rattle.text.specs.declared.Fault.{Fault}
+use Rattle.text.specs.declared.Failure.{Failure}
+use Rattle.text.specs.declared.Failure.TheVariants.{Line, NoMemory}
 use Rattle.text.specs.declared.Reason.{Reason}
 use Rattle.text.specs.declared.Reason.TheVariants.{Unreadable, NoNewline, TooMany, NameTwice, ParentNotThere, LaterParent, OwnParent, SameParents, SpouseNotThere, OwnSpouse, SecondSpouse}
 
@@ -17,6 +20,14 @@ reason_words SameParents = codes "the mother is the father"
 reason_words SpouseNotThere = codes "the spouse is not there"
 reason_words OwnSpouse = codes "somebody is their own spouse"
 reason_words SecondSpouse = codes "the spouse has another spouse"
+
+-- the line by its number, and the reason
+abbrev pub fault_words : Fault → List ℕ
+fault_words e = codes "refused 1 at " ++ (decimal e.line ++ (codes ": " ++ reason_words e.reason))
+
+abbrev pub failure_words : Failure → List ℕ
+failure_words (Line e) = fault_words e
+failure_words NoMemory = codes "not enough memory"
 
 -- the line with a number, from 0, without its end
 abbrev pub behind_of : Option Halves → List ℕ

@@ -115,8 +115,3 @@ with_persons (Ok ls) = persons_of ls
 
 unfoldable pub read_family : List ℕ → Result Household Fault
 read_family bs = with_persons (lines_in 65 bs [])
-
--- what the code's outcomes are
-abbrev pub told : {X Y : Type 0} → (X → Y) → Result X Fault → Result Y Fault
-told g (Ok x) = Ok (g x)
-told g (Err e) = Err e

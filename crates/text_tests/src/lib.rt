@@ -3,10 +3,9 @@
 
 #[cfg(test)]
 mod tests {
-    use clerk::Refusal;
     use std::alloc::{AllocError, Global};
     use std::test::Fail;
-    use text::Reason;
+    use text::{Failure, Fault, Reason};
 
     // A text, and the line that is refused with the reason.
     #[derive(Clone, Copy)]
@@ -16,20 +15,13 @@ mod tests {
         reason: Reason,
     }
 
-    fn is_refused(heap: Global, bad: Bad) -> Result<bool, AllocError> {
-        match text::read(heap, bad.text)? {
-            Ok(_) => Ok(false),
-            Err(fault) => Ok(fault.line == bad.line && fault.reason == bad.reason),
-        }
+    fn is_refused(heap: Global, bad: Bad) -> bool {
+        let Bad { text, line, reason } = bad;
+        text::read(heap, text).err() == Some(Failure::Line(Fault { line, reason }))
     }
 
-    fn all_refused(heap: Global, table: &[Bad]) -> Result<bool, AllocError> {
-        for bad in table {
-            if !is_refused(heap, *bad)? {
-                return Ok(false);
-            }
-        }
-        Ok(true)
+    fn all_refused(heap: Global, table: &[Bad]) -> bool {
+        table.iter().all(|bad| is_refused(heap, *bad))
     }
 
     #[test]
@@ -112,7 +104,7 @@ mod tests {
                 reason,
             },
         ];
-        assert!(rt; all_refused(rt.alloc(), &table)?);
+        assert!(rt; all_refused(rt.alloc(), &table));
         Ok(())
     }
 
@@ -181,7 +173,7 @@ mod tests {
                 reason,
             },
         ];
-        assert!(rt; all_refused(rt.alloc(), &table)?);
+        assert!(rt; all_refused(rt.alloc(), &table));
         Ok(())
     }
 
@@ -244,7 +236,7 @@ mod tests {
                 reason: Reason::SecondSpouse,
             },
         ];
-        assert!(rt; all_refused(rt.alloc(), &table)?);
+        assert!(rt; all_refused(rt.alloc(), &table));
         Ok(())
     }
 
@@ -252,9 +244,7 @@ mod tests {
     fn many_lines(heap: Global, count: u8) -> Result<Vec<u8>, AllocError> {
         let mut text = Vec::new(heap);
         for i in 0..count {
-            text.push(b'a' + i % 26)?;
-            text.push(b'a' + i / 26)?;
-            text.push(b'\n')?;
+            text.extend_from_slice(&[b'a' + i % 26, b'a' + i / 26, b'\n'])?;
         }
         Ok(text)
     }
@@ -262,14 +252,14 @@ mod tests {
     #[test]
     fn persons_beyond_the_limit(rt: HostRuntime) -> Result<(), Fail> {
         let most = many_lines(rt.alloc(), 64)?;
-        assert!(rt; text::read(rt.alloc(), most.as_slice())?.is_ok());
+        assert!(rt; text::read(rt.alloc(), most.as_slice()).is_ok());
         let more = many_lines(rt.alloc(), 65)?;
         let bad = Bad {
             text: more.as_slice(),
             line: 64,
             reason: Reason::TooMany,
         };
-        assert!(rt; is_refused(rt.alloc(), bad)?);
+        assert!(rt; is_refused(rt.alloc(), bad));
         Ok(())
     }
 
@@ -280,23 +270,15 @@ mod tests {
         printed: &'a str,
     }
 
-    fn is_printed(heap: Global, good: Good) -> Result<bool, AllocError> {
-        match text::read(heap, good.text.as_bytes())? {
-            Ok(family) => {
-                let lines = text::print(heap, &family)?;
-                Ok(lines.as_str() == good.printed)
-            }
-            Err(_) => Ok(false),
-        }
+    fn is_printed(heap: Global, good: Good) -> bool {
+        let Ok(family) = text::read(heap, good.text.as_bytes()) else {
+            return false;
+        };
+        text::print(heap, &family).is_ok_and(|lines| lines.as_str() == good.printed)
     }
 
-    fn all_printed(heap: Global, table: &[Good]) -> Result<bool, AllocError> {
-        for good in table {
-            if !is_printed(heap, *good)? {
-                return Ok(false);
-            }
-        }
-        Ok(true)
+    fn all_printed(heap: Global, table: &[Good]) -> bool {
+        table.iter().all(|good| is_printed(heap, *good))
     }
 
     #[test]
@@ -327,7 +309,7 @@ mod tests {
                 printed: "died\nof\nandy\nspouse of Dan\n",
             },
         ];
-        assert!(rt; all_printed(rt.alloc(), &table)?);
+        assert!(rt; all_printed(rt.alloc(), &table));
         Ok(())
     }
 
@@ -339,20 +321,13 @@ mod tests {
         lines: &'a str,
     }
 
-    fn is_divided(heap: Global, estate: Estate) -> Result<bool, AllocError> {
-        match clerk::estate(heap, estate.text.as_bytes(), estate.name)? {
-            Ok(lines) => Ok(lines.as_str() == estate.lines),
-            Err(_) => Ok(false),
-        }
+    fn is_divided(heap: Global, estate: Estate) -> bool {
+        clerk::estate(heap, estate.text.as_bytes(), estate.name).is_ok_and(|lines| lines.as_str()
+            == estate.lines)
     }
 
-    fn all_divided(heap: Global, table: &[Estate]) -> Result<bool, AllocError> {
-        for estate in table {
-            if !is_divided(heap, *estate)? {
-                return Ok(false);
-            }
-        }
-        Ok(true)
+    fn all_divided(heap: Global, table: &[Estate]) -> bool {
+        table.iter().all(|estate| is_divided(heap, *estate))
     }
 
     #[test]
@@ -382,21 +357,14 @@ mod tests {
                 lines: "Frieda 2/3\nGustav 1/3\n",
             },
         ];
-        assert!(rt; all_divided(rt.alloc(), &table)?);
+        assert!(rt; all_divided(rt.alloc(), &table));
         Ok(())
-    }
-
-    fn is_nobody(heap: Global, text: &[u8], name: &str) -> Result<bool, AllocError> {
-        match clerk::estate(heap, text, name)? {
-            Err(Refusal::NotThere) => Ok(true),
-            _ => Ok(false),
-        }
     }
 
     #[test]
-    fn nobody_has_the_name(rt: HostRuntime) -> Result<(), Fail> {
-        assert!(rt; is_nobody(rt.alloc(), b"Anna\n", "Berta")?);
-        Ok(())
+    fn nobody_has_the_name(rt: HostRuntime) {
+        let refused = clerk::estate(rt.alloc(), b"Anna\n", "Berta").err();
+        assert_eq!(rt; refused, Some(clerk::Failure::NotThere));
     }
 
     // The line that is shown with a message.

@@ -3,9 +3,10 @@
 
 use register::session::Register;
 use register::store::Store;
+use service::stage::BirthsAndDeaths;
 use std::alloc::AllocError;
 use std::time::Instant;
-use std::{env, io};
+use std::{env, fmt, io};
 
 // What is lent to a register for 4,096 persons.
 const WORDS: usize = 90112;
@@ -25,19 +26,55 @@ enum Family {
     Mixed,
 }
 
+impl fmt::Display for Family {
+    fn fmt<W: fmt::Write>(&self, f: &mut fmt::Formatter<W>) -> fmt::Result {
+        match self {
+            Family::Wide => write!(f, "wide"),
+            Family::Chain => write!(f, "chain"),
+            Family::Mixed => write!(f, "mixed"),
+        }
+    }
+}
+
+// Who dies first.
+#[derive(Clone, Copy)]
+enum First {
+    Oldest,
+    Youngest,
+}
+
+impl fmt::Display for First {
+    fn fmt<W: fmt::Write>(&self, f: &mut fmt::Formatter<W>) -> fmt::Result {
+        match self {
+            First::Oldest => write!(f, "oldest"),
+            First::Youngest => write!(f, "youngest"),
+        }
+    }
+}
+
 #[derive(Clone, Copy)]
 struct Case {
     family: Family,
     persons: u32,
-    oldest_first: bool,
+    first: First,
 }
 
 // Nanoseconds, and how many calls were turned away.
-#[derive(Clone, Copy)]
+#[derive(Clone, Copy, Default)]
 struct Times {
     births: u128,
     deaths: u128,
     refused: u32,
+}
+
+impl Times {
+    fn plus(self, more: Times) -> Times {
+        Times {
+            births: self.births.saturating_add(more.births),
+            deaths: self.deaths.saturating_add(more.deaths),
+            refused: self.refused.saturating_add(more.refused),
+        }
+    }
 }
 
 #[derive(Debug, Drop)]
@@ -60,58 +97,47 @@ impl From<io::Error> for Failure {
 
 // Mother and father of a person with this number, each 0 or one more than a number.
 fn parents(family: Family, who: u32) -> (u32, u32) {
-    if who == 0 {
-        return (0, 0);
-    }
-    match family {
-        Family::Wide => (1, 0),
-        Family::Chain => (who, 0),
-        Family::Mixed => {
-            if who == 1 {
-                (1, 0)
-            } else {
-                (who / 2 + 1, who / 4 + 1)
-            }
-        }
+    match (family, who) {
+        (_, 0) => (0, 0),
+        (Family::Wide, _) => (1, 0),
+        (Family::Chain, _) => (who, 0),
+        (Family::Mixed, 1) => (1, 0),
+        (Family::Mixed, _) => (who / 2 + 1, who / 4 + 1),
     }
 }
 
-fn bear(register: &mut Register, mother: u32, father: u32) -> u32 {
+// A birth: whether it is taken.
+fn bear(register: &mut Register<BirthsAndDeaths>, mother: u32, father: u32) -> bool {
     let a = mother.to_le_bytes();
     let b = father.to_le_bytes();
-    let row = [0, a[0], a[1], a[2], a[3], b[0], b[1], b[2], b[3]];
-    if register.call(&row) == 5 { 0 } else { 1 }
+    register.call(&[0, a[0], a[1], a[2], a[3], b[0], b[1], b[2], b[3]]) == 5
 }
 
-fn bury(register: &mut Register, who: u32) -> u32 {
+// A death: whether it is taken.
+fn bury(register: &mut Register<BirthsAndDeaths>, who: u32) -> bool {
     let a = who.to_le_bytes();
-    if register.call(&[3, a[0], a[1], a[2], a[3]]) == 5 {
-        0
-    } else {
-        1
-    }
+    register.call(&[3, a[0], a[1], a[2], a[3]]) == 5
 }
 
 // All are born: how many births were turned away.
-fn bear_all(register: &mut Register, case: Case) -> u32 {
+fn bear_all(register: &mut Register<BirthsAndDeaths>, case: Case) -> u32 {
     let mut refused = 0u32;
     for who in 0..case.persons {
         let (mother, father) = parents(case.family, who);
-        refused = refused.saturating_add(bear(register, mother, father));
+        refused = refused.saturating_add(u32::from(!bear(register, mother, father)));
     }
     refused
 }
 
 // All die: how many deaths were turned away.
-fn bury_all(register: &mut Register, case: Case) -> u32 {
+fn bury_all(register: &mut Register<BirthsAndDeaths>, case: Case) -> u32 {
     let mut refused = 0u32;
     for turn in 0..case.persons {
-        let who = if case.oldest_first {
-            turn
-        } else {
-            case.persons - 1 - turn
+        let who = match case.first {
+            First::Oldest => turn,
+            First::Youngest => case.persons - 1 - turn,
         };
-        refused = refused.saturating_add(bury(register, who));
+        refused = refused.saturating_add(u32::from(!bury(register, who)));
     }
     refused
 }
@@ -128,7 +154,7 @@ fn time_once(
     case: Case,
 ) -> Result<Times, Failure> {
     let mut store = Store::new(words, bytes);
-    let Ok(mut register) = Register::open(&mut store, case.persons) else {
+    let Ok(mut register) = Register::<BirthsAndDeaths>::open(&mut store, case.persons) else {
         return Err(Failure::NoMemory);
     };
     let start = Instant::now(rt)?;
@@ -152,28 +178,11 @@ fn time_often(
     case: Case,
     turns: u32,
 ) -> Result<Times, Failure> {
-    let mut sum = Times {
-        births: 0,
-        deaths: 0,
-        refused: 0,
-    };
+    let mut sum = Times::default();
     for _ in 0..turns {
-        let times = time_once(rt, words, bytes, case)?;
-        sum = Times {
-            births: sum.births.saturating_add(times.births),
-            deaths: sum.deaths.saturating_add(times.deaths),
-            refused: sum.refused.saturating_add(times.refused),
-        };
+        sum = sum.plus(time_once(rt, words, bytes, case)?);
     }
     Ok(sum)
-}
-
-fn family_name(family: Family) -> &'static str {
-    match family {
-        Family::Wide => "wide",
-        Family::Chain => "chain",
-        Family::Mixed => "mixed",
-    }
 }
 
 fn print_case(
@@ -185,17 +194,15 @@ fn print_case(
     let turns = TIMED / case.persons.max(1);
     let times = time_often(rt, words, bytes, case, turns)?;
     let calls = (turns as u128).saturating_mul(case.persons as u128).max(1);
-    let name = family_name(case.family);
-    let order = if case.oldest_first {
-        "oldest"
-    } else {
-        "youngest"
-    };
+    let Case {
+        family,
+        persons,
+        first,
+    } = case;
     let birth = times.births / calls;
     let death = times.deaths / calls;
-    let Case { persons, .. } = case;
     println!(rt;
-        "{name} {persons} {order} {birth} {death} {}",
+        "{family} {persons} {first} {birth} {death} {}",
         times.refused
     )?;
     Ok(())
@@ -207,11 +214,11 @@ fn print_all(rt: &HostRuntime) -> Result<(), Failure> {
     println!(rt; "family persons first-to-die ns-per-birth ns-per-death refused")?;
     for family in [Family::Wide, Family::Chain, Family::Mixed] {
         for persons in [64, 512, 4096] {
-            for oldest_first in [true, false] {
+            for first in [First::Oldest, First::Youngest] {
                 let case = Case {
                     family,
                     persons,
-                    oldest_first,
+                    first,
                 };
                 print_case(rt, &mut words, &mut bytes, case)?;
             }

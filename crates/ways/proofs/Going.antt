@@ -1,5 +1,5 @@
 -- Going down lines: what one more line gives, and why going down stops. Assumes nothing.
-use Rattle.std.proofs.Common.{◌≡◌, ℕ, zero, suc, ◌+◌, ◌-◌, ◌*◌, ◌<◌, ◌≤◌, Bool, true, false, cond, ◌≢◌, List, [], ◌∷◌, ◌++◌, map, length, get_or, take, drop, filter, sym, refl, ap, ◌∙◌, subst, inl, inr, ⊎_elim, arith}
+use Rattle.std.proofs.Common.{◌≡◌, ℕ, zero, suc, ◌+◌, ◌-◌, ◌*◌, ◌<◌, ◌≤◌, Bool, true, false, cond, ◌≢◌, List, [], ◌∷◌, ◌++◌, map, length, get_or, take, drop, filter, sym, refl, ap, ◌∙◌, subst, inl, inr, ⊎_elim, Ok, Err, Result, IsErrAnd, MatchResult, arith}
 use Rattle.std.specs.List.{flat_map, AllByRecursion}
 use Rattle.std.proofs.lemmas.List.{append_assoc, append-nil, length-append, take_more, take-append-drop, drop_more, map-append}
 use Rattle.std.proofs.lemmas.Bool.{cases_eq, both_ways, and_cases, not-false, eqb-true, or_cases, cond-true, cond-false}
@@ -15,7 +15,9 @@ use Rattle.theory.proofs.Multiples.{line_below}
 use Rattle.descent.specs.Going.{TooLarge}
 use Rattle.descent.proofs.Going.{large_within}
 use Rattle.ways.specs.Ways.{Way, way_part, stands, line_ways_in}
-use Rattle.ways.specs.Going.{ways_below, Enough, Beyond, Marks}
+use Rattle.ways.specs.Going.{ways_below, Enough, Beyond, Marks, ByLimit}
+use Rattle.ways.specs.declared.WaysError.{WaysError}
+use Rattle.ways.specs.declared.WaysError.TheVariants.{BeyondLimit, NoMemory}
 
 pub map-joined : {X A B : Type 0} (g : A → B) (h : X → List A) (xs : List X) → map g (flat_map h xs) ≡ flat_map (λ x. map g (h x)) xs
 map-joined g h [] = refl
@@ -50,11 +52,15 @@ module _ (f : Family) (d : ℕ) where
   unfolding line_ways_in
   way_standing n ys p b e = cond-true (stands f d p) (record { line = ys; who = p; by = b } ∷ []) _ e
 
+  -- those of some persons whose lines live, by a row
+  pub kept_lines : (s : ℕ → Bool) (ps : List ℕ) → Marks f d s → filter s ps ≡ living_lines f d ps
+  kept_lines s ps right = kept_cong s (line_lives f d) ps (all_any (λ p. s p ≡ line_lives f d p) right ps)
+
   pub way_divided : (n : ℕ) (s : ℕ → Bool) (ys cs : List ℕ) (p b each : ℕ) → Marks f d s → cs ≡ filter s (children f p) → stands f d p ≡ false → each ≡ b * length cs → 0 < n →
       line_ways_in (suc n) f d ys p b ≡ ways_below (n - 1) f d ys cs each
   unfolding line_ways_in
   way_divided n s ys cs p b each right e dead k some =
-      let same : living_lines f d (children f p) ≡ cs = sym (kept_cong s (line_lives f d) (children f p) (all_any (λ c. s c ≡ line_lives f d c) right (children f p))) ∙ sym e in
+      let same : living_lines f d (children f p) ≡ cs = sym (kept_lines s (children f p) right) ∙ sym e in
       let up : suc (n - 1) ≡ n = omega arith in
       cond-false (stands f d p) (record { line = ys; who = p; by = b } ∷ []) _ dead
       ∙ ap (λ (zs : List ℕ). flat_map (λ c. line_ways_in n f d (ys ++ (c ∷ [])) c (b * length zs)) zs) same
@@ -78,16 +84,17 @@ module _ (f : Family) (d : ℕ) where
         ap (flat_map one_line) (sym (take-append-drop i ps) ∙ ap (λ r. take i ps ++ r) (drop_more ps i 0 h ∙ ap (λ x. x ∷ drop (i + 1) ps) e))
         ∙ joined_append one_line (take i ps) (p ∷ drop (i + 1) ps)
 
-    -- one line is beyond the limits: so are all
-    pub stopped_at : (ps : List ℕ) (i p : ℕ) (before : List Way) → i < length ps → get_or ps i 0 ≡ p →
-        Beyond (before ++ ways_below n f d xs (take i ps) b) (one_line p) → Beyond before (ways_below n f d xs ps b)
-    stopped_at ps i p before h e stop =
+    -- one line is beyond the limits, behind those before it: so are all
+    pub stopped_at : (ps : List ℕ) (i : ℕ) (before mid : List Way) → i < length ps → mid ≡ before ++ ways_below n f d xs (take i ps) b →
+        Beyond mid (one_line (get_or ps i 0)) → Beyond before (ways_below n f d xs ps b)
+    stopped_at ps i before mid h e stop =
+        let p = get_or ps i 0 in
         let front = ways_below n f d xs (take i ps) b in
         let back = ways_below n f d xs (drop (i + 1) ps) b in
-        let cut = below_split ps i p h e in
+        let cut = below_split ps i p h refl in
         ⊎_elim
-        (λ (m : 4096 < length (before ++ front) + length (one_line p)).
-        inl (omega (arith, ap length cut, length-append front (one_line p ++ back), length-append (one_line p) back, length-append before front)))
+        (λ (m : 4096 < length mid + length (one_line p)).
+        inl (omega (arith, ap length e, ap length cut, length-append front (one_line p ++ back), length-append (one_line p) back, length-append before front)))
         (λ (m : TooLarge (map way_part (one_line p))).
         inr
         (subst TooLarge
@@ -137,13 +144,23 @@ module _ (f : Family) (d : ℕ) where
           let small = line_below s d c (b * k) qs (flat_map g cs ++ rs) lives.0 (λ z. ne (ap (λ r. common_multiple r 1) cut ∙ z)) in
           omega arith
 
--- a test that decides between two facts
-pub cond_holds : (t : Bool) (A B : Type 0) → t ≡ true → cond t A B → A
-cond_holds t A B e h = subst (λ (z : Bool). cond z A B) e h
-
-pub cond_fails : (t : Bool) (A B : Type 0) → t ≡ false → cond t A B → B
-cond_fails t A B e h = subst (λ (z : Bool). cond z A B) e h
-
 -- one line more behind those that are there
 pub went_on : (before mid after front row : List Way) → mid ≡ before ++ front → after ≡ mid ++ row → after ≡ before ++ (front ++ row)
 went_on before mid after front row e h = h ∙ ap (λ r. r ++ row) e ∙ append_assoc before front row
+
+-- A refusal: that it is by the limits has to be shown only if it is; what it says is handed on.
+pub refused_by : (P : Type 0) (e : WaysError) → P → ByLimit P e
+refused_by P BeyondLimit h = h
+refused_by P NoMemory h = tt
+
+pub refused_if : {T : Type 0} (P : Type 0) (e : WaysError) → (◌≡◌ {A = Result T WaysError} (Err e) (Err BeyondLimit) → P) → ByLimit P e
+refused_if P BeyondLimit h = h refl
+refused_if P NoMemory h = tt
+
+pub by_limit : {P Q : Type 0} (e : WaysError) → (P → Q) → ByLimit P e → ByLimit Q e
+by_limit BeyondLimit f h = f h
+by_limit NoMemory f h = h
+
+pub handed_on : {T : Type 0} (r : Result T WaysError) (X : T → Type 0) (P Q : Type 0) (e : WaysError) → IsErrAnd r (λ z. z ≡ e) → (P → Q) → ByLimit P e → MatchResult r X (ByLimit Q)
+handed_on (Ok x) X P Q e h f p = absurd h
+handed_on (Err z) X P Q e h f p = subst (ByLimit Q) (sym h) (by_limit e f p)

@@ -1,5 +1,5 @@
 -- What is said of somebody's share: each part with the persons of its line, in lowest terms, and the sum. Assumes nothing: these are definitions.
-use Rattle.std.specs.Prelude.{ℕ, ◌/◌, Bool, List, ◌++◌, map, vec_items, filter, ◌==◌}
+use Rattle.std.specs.Prelude.{ℕ, ◌/◌, Bool, List, ◌++◌, map, vec_items, filter, codes, decimal, ◌==◌}
 use Rattle.law.specs.Family.{Family, estate}
 use Rattle.law.specs.Calls.{share_of, gcd}
 use Rattle.theory.specs.Shares.{shares_of}
@@ -13,6 +13,10 @@ use Rattle.why.specs.declared.Explanation.{Explanation}
 -- a fraction in lowest terms
 abbrev pub lowest_terms : ℕ → ℕ → Fraction
 lowest_terms up down = record { up = up / gcd up down; down = down / gcd up down }
+
+-- a fraction as text
+abbrev pub fraction_text : Fraction → List ℕ
+fraction_text x = decimal x.up ++ (codes "/" ++ decimal x.down)
 
 -- a part in lowest terms and the persons of its line, who are none for a spouse
 pub record LinePart : Type 0 where

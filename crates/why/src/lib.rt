@@ -1,27 +1,50 @@
 // Why somebody has a share of an estate: every part that comes to them, with the persons of its line, and the sum.
 #![tactic(auto)]
 
-ghost use Rattle.std.specs.Prelude.{◌≡◌, ◌+◌, ◌*◌, ◌/◌, ◌<◌, ◌++◌, map, length, IfOk, if◌then◌else◌, OnOk, nat_eq};
+ghost use Rattle.std.specs.Prelude.{◌≡◌, ◌<◌, ◌++◌, map, length, IfOk, OnOk, Some};
 ghost use Rattle.ways.specs.Laws.{way_pieces};
 ghost use Rattle.ways.specs.Rows.{family_of, law_ways};
 ghost use Rattle.ways.specs.Ways.{counted};
 ghost use Rattle.theory.specs.Families.{WellFormed};
 ghost use Rattle.reasons.specs.Estates.{lead_ways, DividedByWays};
-ghost use Rattle.why.specs.Answers.{AnswerRight};
-ghost use Rattle.why.specs.Explained.{lowest_terms, explanation, explanations, parts_to, ways_held};
+ghost use Rattle.why.specs.Answers.{ShareRight, AnswerRight};
+ghost use Rattle.why.specs.Explained.{lowest_terms, fraction_text, explanation, explanations, parts_to, ways_held};
 
 use kinship::Cause;
 use people::Person;
-use reasons::{Estate, Outcome};
+use reasons::{Estate, Refusal};
 use shares::Part;
 use std::alloc::{AllocError, Global};
+use std::fmt;
 use ways::Way;
 
 // Up by down of an estate.
-#[derive(Clone, Copy, PartialEq, Eq)]
+#[derive(Clone, Copy, Debug, PartialEq, Eq, Hash)]
 pub struct Fraction {
     pub up: u64,
     pub down: u64,
+}
+
+impl Fraction {
+    // In lowest terms; nothing of nothing is 0 by 0.
+    pub fn lowest(up: u64, down: u64) -> Self
+        ensures value { result ≡ lowest_terms up down }
+    {
+        let share = shares::reduce(0, up, down);
+        Self {
+            up: share.up,
+            down: share.down,
+        }
+    }
+}
+
+impl fmt::Display for Fraction {
+    ghost output = { λ fraction. Some (fraction_text fraction) };
+
+    fn fmt<W: fmt::Write>(&self, f: &mut fmt::Formatter<W>) -> fmt::Result {
+        let Fraction { up, down } = *self;
+        write!(f, "{up}/{down}")
+    }
 }
 
 // A part of an estate, in lowest terms, and the persons of the line by which it came; nobody for a part that a spouse has as such.
@@ -38,24 +61,11 @@ pub struct Reasons {
     pub sum: Fraction,
 }
 
-// Why somebody has a share or none: the decedent is not there, the estate is beyond the limits, the reasons, or the cause.
+// Why somebody has a share, or none.
 #[derive(Drop)]
 pub enum Answer {
-    NotThere,
-    BeyondLimit,
     Heir(Reasons),
     NoShare(Cause),
-}
-
-// A fraction in lowest terms; nothing of nothing is 0 by 0.
-pub fn lowest(up: u64, down: u64) -> Fraction
-    ensures value { result ≡ lowest_terms up down }
-{
-    let share = shares::reduce(0, up, down);
-    Fraction {
-        up: share.up,
-        down: share.down,
-    }
 }
 
 // One way: so many times one by so many, by a line.
@@ -65,7 +75,7 @@ fn explain(heap: Global, line: &[usize], up: u32, by: u32) -> Result<Explanation
     let line = Vec::from_slice(heap, line)?;
     Ok(Explanation {
         line,
-        part: lowest(u64::from(up), u64::from(by)),
+        part: Fraction::lowest(u64::from(up), u64::from(by)),
     })
 }
 
@@ -77,12 +87,9 @@ fn put_spouse(
 ) -> Result<(), AllocError>
     ensures value { OnOk result (explanations found.new.items ≡ explanations found.old.items ++ parts_to heir (map (counted 1) (lead_ways spouse))) }
 {
-    let Some(part) = spouse else {
-        return Ok(());
-    };
-    if part.who as usize == heir {
-        let reason = explain(*found.allocator(), &[], 1, part.by)?;
-        found.push(reason)?;
+    if let Some(part) = spouse.filter(|part| part.who as usize == heir) {
+        let heap = *found.allocator();
+        found.push(explain(heap, &[], 1, part.by)?)?;
     }
     Ok(())
 }
@@ -99,8 +106,7 @@ fn put_ways(
     let heap = *found.allocator();
     for way in ways {
         if way.who == heir {
-            let reason = explain(heap, way.line.as_slice(), up, way.by)?;
-            found.push(reason)?;
+            found.push(explain(heap, &way.line, up, way.by)?)?;
         }
     }
     Ok(())
@@ -116,39 +122,31 @@ pub fn explanations_of(
 {
     let mut found = Vec::new(heap);
     put_spouse(&mut found, estate.spouse, heir)?;
-    put_ways(&mut found, estate.ways.as_slice(), estate.up, heir)?;
+    put_ways(&mut found, &estate.ways, estate.up, heir)?;
     Ok(found)
-}
-
-// How many pieces come to this heir by a way of somebody, which counts so many times one by so many of the whole.
-fn amount_to(heir: usize, who: usize, up: u32, whole: u32, by: u32) -> u64
-    ensures value { result ≡ (if nat_eq who heir then up * (whole / by) else 0) }
-{
-    if who != heir {
-        return 0;
-    }
-    shares::amount(up, whole, by)
 }
 
 // How many pieces this heir has by a spouse's part.
 fn spouse_pieces(spouse: Option<Part>, whole: u32, heir: usize) -> u64
     ensures value { result ≡ way_pieces whole (map (counted 1) (lead_ways spouse)) heir }
 {
-    match spouse {
-        Some(part) => amount_to(heir, part.who as usize, 1, whole, part.by),
-        None => 0,
-    }
+    spouse
+        .filter(|part| part.who as usize == heir)
+        .map_or(0, |part| shares::amount(1, whole, part.by))
 }
 
 // How many pieces somebody has of an estate, by all their ways; what doesn't fit is cut off, which no estate comes to.
 pub fn pieces_of(estate: &Estate, heir: usize) -> u64
     ensures value { way_pieces estate.now.whole (ways_held estate.now) heir < 18446744073709551616 → result ≡ way_pieces estate.now.whole (ways_held estate.now) heir }
 {
-    let mut sum = spouse_pieces(estate.spouse, estate.whole, heir);
-    for way in estate.ways.as_slice() {
-        sum = sum.saturating_add(amount_to(heir, way.who, estate.up, estate.whole, way.by));
-    }
-    sum
+    let &Estate { up, whole, .. } = estate;
+    let spouse = spouse_pieces(estate.spouse, whole, heir);
+    estate
+        .ways
+        .iter()
+        .filter(|way| way.who == heir)
+        .map(|way| shares::amount(up, whole, way.by))
+        .fold(spouse, |sum, pieces| sum.saturating_add(pieces))
 }
 
 // All parts of an estate that come to somebody, and what they come to.
@@ -157,7 +155,7 @@ pub fn explain_share(heap: Global, estate: &Estate, heir: usize) -> Result<Reaso
     ensures sum { IfOk result (λ x. (way_pieces estate.now.whole (ways_held estate.now) heir < 18446744073709551616 → x.sum ≡ lowest_terms (way_pieces estate.now.whole (ways_held estate.now) heir) estate.now.whole)) }
 {
     let parts = explanations_of(heap, estate, heir)?;
-    let sum = lowest(pieces_of(estate, heir), u64::from(estate.whole));
+    let sum = Fraction::lowest(pieces_of(estate, heir), u64::from(estate.whole));
     Ok(Reasons { parts, sum })
 }
 
@@ -169,7 +167,7 @@ fn share_or_cause(
     estate: &Estate,
     who: usize,
 ) -> Result<Answer, AllocError>
-    ensures right { IfOk result (λ y. (WellFormed (family_of family.now) → decedent < length family.now → DividedByWays (family_of family.now) decedent estate.now → AnswerRight (family_of family.now) decedent who y)) }
+    ensures right { IfOk result (λ y. (WellFormed (family_of family.now) → decedent < length family.now → DividedByWays (family_of family.now) decedent estate.now → ShareRight (family_of family.now) decedent who y)) }
 {
     let reasons = explain_share(heap, estate, who)?;
     if reasons.parts.is_empty() {
@@ -180,17 +178,9 @@ fn share_or_cause(
 }
 
 // Why somebody has a share of somebody's estate, as if they had died now: every part with its line, and the sum; or why they have none.
-pub fn why(
-    heap: Global,
-    family: &[Person],
-    decedent: usize,
-    who: usize,
-) -> Result<Answer, AllocError>
-    ensures right { IfOk result (λ y. (WellFormed (family_of family.now) → AnswerRight (family_of family.now) decedent who y)) }
+pub fn why(heap: Global, family: &[Person], decedent: usize, who: usize) -> Result<Answer, Refusal>
+    ensures right { WellFormed (family_of family.now) → AnswerRight (family_of family.now) decedent who result }
 {
-    match reasons::divide(heap, family, decedent)? {
-        Outcome::NotThere => Ok(Answer::NotThere),
-        Outcome::BeyondLimit => Ok(Answer::BeyondLimit),
-        Outcome::Divided(estate) => share_or_cause(heap, family, decedent, &estate, who),
-    }
+    let estate = reasons::divide(heap, family, decedent)?;
+    Ok(share_or_cause(heap, family, decedent, &estate, who)?)
 }

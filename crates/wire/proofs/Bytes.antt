@@ -1,7 +1,7 @@
 -- Laws of calls and answers as bytes: how long they are, and what is left where they are written one piece after the other. Assumes nothing.
 use Rattle.std.proofs.Common.{◌≡◌, ℕ, ◌+◌, ◌*◌, ◌<◌, ◌≤◌, Bool, true, false, cond, ltb, leb, List, [], ◌∷◌, ◌++◌, length, get_or, take, set, Some, None, sym, refl, ap, ◌∙◌, arith}
 use Rattle.std.specs.List.{flat_map}
-use Rattle.std.proofs.lemmas.List.{append_assoc, length-append, flat_map_more, take_more, take_all, length-take-le}
+use Rattle.std.proofs.lemmas.List.{append-nil, append_assoc, length-append, flat_map_more, take_more, take_all, length-take-le}
 use Rattle.std.proofs.lemmas.Bool.{ltb-true, lt-ltb, le-leb, and_from}
 use Rattle.rows.specs.Written.{written}
 use Rattle.rows.proofs.Written.{written_append, set_written}
@@ -52,13 +52,31 @@ length-known a b n e h =
     (k.1, ltb-true (length (answer_shares b)) 4294967296 k.0)
 
 -- a row that is written value by value
-pub one_written : (k a : ℕ) (out : List ℕ) → written 1 (le4 a) (set out 0 k) ≡ written 0 (row_bytes k (a ∷ []) []) out
-unfolding row_bytes le4
-one_written k a out = ap (written 1 (le4 a)) (set_written 0 k out) ∙ written_append 0 (k ∷ []) (le4 a) out
+pub length-row : (k : ℕ) (vs : List ℕ) → length (row_bytes k vs []) ≡ 1 + 4 * length vs
+unfolding row_bytes
+length-row k vs = omega (arith, length-append (flat_map le4 vs) [], length-values vs)
+  where
+    length-values : (vs : List ℕ) → length (flat_map le4 vs) ≡ 4 * length vs
+    length-values [] = refl
+    length-values (v ∷ vs) = omega (arith, length-append (le4 v) (flat_map le4 vs), length-le4 v, length-values vs)
 
-pub two_written : (k a b : ℕ) (out : List ℕ) → written 5 (le4 b) (written 0 (row_bytes k (a ∷ []) []) out) ≡ written 0 (row_bytes k (a ∷ b ∷ []) []) out
-unfolding row_bytes le4
-two_written k a b out = written_append 0 (k ∷ le4 a) (le4 b) out
+pub row_begun : (k : ℕ) (out : List ℕ) → set out 0 k ≡ written 0 (row_bytes k [] []) out
+unfolding row_bytes
+row_begun k out = set_written 0 k out
+
+row_append : (k : ℕ) (vs : List ℕ) (v : ℕ) → row_bytes k vs [] ++ le4 v ≡ row_bytes k (vs ++ (v ∷ [])) []
+unfolding row_bytes
+row_append k vs v =
+    ap (λ r. (k ∷ r) ++ le4 v) (append-nil (flat_map le4 vs))
+    ∙ (flat_map_more le4 (k ∷ []) vs v ∙ ap (λ r. k ∷ r) (sym (append-nil (flat_map le4 (vs ++ (v ∷ []))))))
+
+pub row_more : (k i : ℕ) (vs out : List ℕ) → i < length vs
+    → written (1 + 4 * i) (le4 (get_or vs i 0)) (written 0 (row_bytes k (take i vs) []) out) ≡ written 0 (row_bytes k (take (i + 1) vs) []) out
+row_more k i vs out h =
+    ap (λ m. written m (le4 (get_or vs i 0)) (written 0 (row_bytes k (take i vs) []) out))
+    (omega (arith, length-row k (take i vs), length-take-le i vs (omega arith)))
+    ∙ (written_append 0 (row_bytes k (take i vs) []) (le4 (get_or vs i 0)) out
+    ∙ ap (λ r. written 0 r out) (row_append k (take i vs) (get_or vs i 0) ∙ ap (λ us. row_bytes k us []) (sym (take_more vs i 0 h))))
 
 -- a share that is written value by value
 pub then_written : (at n : ℕ) (a b out : List ℕ) → length a ≡ n → written (at + n) b (written at a out) ≡ written at (a ++ b) out

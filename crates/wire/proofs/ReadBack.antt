@@ -1,14 +1,14 @@
 -- The bytes of calls and of answers are read back as those calls and answers. Assumes nothing.
-use Rattle.std.proofs.Common.{◌≡◌, ℕ, zero, suc, ◌+◌, ◌*◌, ◌<◌, Bool, true, false, cond, ◌&&◌, eqb, List, [], ◌∷◌, ◌++◌, length, get_or, Some, None, sym, refl, ap, ◌∙◌, arith}
+use Rattle.std.proofs.Common.{◌≡◌, ℕ, zero, suc, ◌+◌, ◌-◌, ◌*◌, ◌/◌, ◌<◌, ◌≤◌, Bool, true, false, cond, ◌&&◌, eqb, List, [], ◌∷◌, ◌++◌, length, get_or, take, drop, Some, None, sym, refl, ap, ◌∙◌, arith}
 use Rattle.std.specs.List.{flat_map, AllByRecursion, slice_get}
-use Rattle.std.proofs.lemmas.List.{append_assoc, length-append}
+use Rattle.std.proofs.lemmas.List.{append_assoc, length-append, length-drop, length-take-le, take-append-drop}
 use Rattle.std.proofs.lemmas.Bool.{and_parts, eqb-true, eq-eqb}
 use Rattle.law.specs.Calls.{born, wed, parted, dies, estate_of, unreadable, call_number, Share, refused, number, shares}
-use Rattle.wire.specs.declared.Reading.{Reading}
-use Rattle.wire.specs.declared.Reading.TheVariants.{Shares}
+use Rattle.wire.specs.declared.Answer.{Answer}
+use Rattle.wire.specs.declared.Answer.TheVariants.{Shares}
 use Rattle.wire.specs.Bytes.{le4, le8, num4, row_bytes, call_bytes, share_bytes, shares_begun, share_at, shares_from, answer_read, answer_from, share_fits, CallsReadBack, AnswersReadBack}
 use Rattle.wire.proofs.Bytes.{length-share, length-begun}
-use Rattle.wire.proofs.Numbers.{num4_le4, num8_le8, num4_behind, num8_behind}
+use Rattle.wire.proofs.Numbers.{num4_le4, num8_le8, num4_behind, num8_behind, num4_before, num8_before}
 
 pub calls_read_back : CallsReadBack
 unfolding call_bytes call_number row_bytes le4
@@ -28,11 +28,11 @@ share_back s bs h =
     let d = num8_le8 s.down h.2 in
     rw (w, u, d)
 
-share_behind : (pre bs : List ℕ) (i : ℕ) → i ≡ length pre → share_at (pre ++ bs) i ≡ share_at bs 0
-share_behind pre bs i e =
-    let w = num4_behind pre bs i 0 (omega arith) in
-    let u = num8_behind pre bs (i + 4) 4 (omega arith) in
-    let d = num8_behind pre bs (i + 12) 12 (omega arith) in
+share_behind : (pre bs : List ℕ) (i j : ℕ) → i ≡ length pre + j → share_at (pre ++ bs) i ≡ share_at bs j
+share_behind pre bs i j e =
+    let w = num4_behind pre bs i j (omega arith) in
+    let u = num8_behind pre bs (i + 4) (j + 4) (omega arith) in
+    let d = num8_behind pre bs (i + 12) (j + 12) (omega arith) in
     rw (w, u, d)
 
 shares_back : (pre : List ℕ) (ss : List Share) (i : ℕ) → i ≡ length pre → AllByRecursion share_fits ss → shares_from (pre ++ flat_map share_bytes ss) i (length ss) ≡ ss
@@ -40,7 +40,7 @@ unfolding shares_from
 shares_back pre [] i e h = refl
 shares_back pre (s ∷ ss) i e h =
     let bs = flat_map share_bytes ss in
-    ap (λ x. x ∷ shares_from (pre ++ (share_bytes s ++ bs)) (i + 20) (length ss)) (share_behind pre (share_bytes s ++ bs) i e ∙ share_back s bs h.0)
+    ap (λ x. x ∷ shares_from (pre ++ (share_bytes s ++ bs)) (i + 20) (length ss)) (share_behind pre (share_bytes s ++ bs) i 0 (omega arith) ∙ share_back s bs h.0)
     ∙ (ap (λ r. s ∷ shares_from r (i + 20) (length ss)) (sym (append_assoc pre (share_bytes s) bs))
     ∙ ap (λ r. s ∷ r) (shares_back (pre ++ share_bytes s) ss (i + 20) (omega (arith, length-append pre (share_bytes s), length-share s)) h.1))
 
@@ -98,5 +98,44 @@ shares_whole bs n e =
     omega (arith, eqb-true (length bs) (5 + 20 * num4 bs 1) t.1, l, length_from bs 5 n, length_from bs 5 (num4 bs 1))
 
 -- what a reading of shares says of the bytes
-pub shares_told : (bs : List ℕ) (r : Reading) (n : ℕ) → r ≡ Shares n → answer_from (Some r) bs ≡ answer_read bs → Some (shares (shares_from bs 5 n)) ≡ answer_read bs
+pub shares_told : (bs : List ℕ) (r : Answer ℕ) (n : ℕ) → r ≡ Shares n → answer_from (Some r) bs ≡ answer_read bs → Some (shares (shares_from bs 5 n)) ≡ answer_read bs
 shares_told bs r n e h = ap (λ x. answer_from (Some x) bs) (sym e) ∙ h
+
+-- SHARES GONE THROUGH. Those behind other bytes, and the first of those in bytes, with the others left.
+shares_behind : (pre bs : List ℕ) (i j n : ℕ) → i ≡ length pre + j → shares_from (pre ++ bs) i n ≡ shares_from bs j n
+unfolding shares_from
+shares_behind pre bs i j zero e = refl
+shares_behind pre bs i j (suc n) e =
+    λ k. share_behind pre bs i j e k ∷ shares_behind pre bs (i + 20) (j + 20) n (omega arith) k
+
+share_before : (bs more : List ℕ) → 20 ≤ length bs → share_at (bs ++ more) 0 ≡ share_at bs 0
+share_before bs more h =
+    let w = num4_before bs more 0 (omega arith) in
+    let u = num8_before bs more 4 (omega arith) in
+    let d = num8_before bs more 12 (omega arith) in
+    rw (w, u, d)
+
+pub shares_none : (bs : List ℕ) → length bs < 20 → shares_from bs 0 (length bs / 20) ≡ []
+unfolding shares_from
+shares_none bs h = let e : length bs / 20 ≡ 0 = omega arith in rw e
+
+pub shares_first : (bs first rest : List ℕ) → first ≡ take 20 bs → rest ≡ drop 20 bs → length rest + 20 ≡ length bs
+    → shares_from bs 0 (length bs / 20) ≡ share_at first 0 ∷ shares_from rest 0 (length rest / 20)
+unfolding shares_from
+shares_first bs first rest f r l =
+    let n = length rest / 20 in
+    let many : length bs / 20 ≡ suc n = omega arith in
+    let long : length first ≡ 20 = ap length f ∙ length-take-le 20 bs (omega arith) in
+    let whole : bs ≡ first ++ rest = sym (take-append-drop 20 bs) ∙ (λ i. sym f i ++ sym r i) in
+    ap (shares_from bs 0) many
+    ∙ (ap (λ xs. share_at xs 0 ∷ shares_from xs 20 n) whole
+    ∙ (λ i. share_before first rest (omega arith) i ∷ shares_behind first rest 20 0 n (omega arith) i))
+
+-- the shares behind the count
+pub shares_counted : (bs : List ℕ) (n : ℕ) → length bs ≡ 5 + 20 * n → shares_from (drop 5 bs) 0 (length (drop 5 bs) / 20) ≡ shares_from bs 5 n
+shares_counted bs n e =
+    let l : length (drop 5 bs) ≡ length bs - 5 = length-drop 5 bs in
+    let many : length (drop 5 bs) / 20 ≡ n = omega arith in
+    ap (shares_from (drop 5 bs) 0) many
+    ∙ (sym (shares_behind (take 5 bs) (drop 5 bs) 5 0 n (omega (arith, length-take-le 5 bs (omega arith))))
+    ∙ ap (λ r. shares_from r 5 n) (take-append-drop 5 bs))

@@ -1,15 +1,18 @@
 -- Calls and answers as bytes: what a row of bytes is, and which bytes say an answer. Assumes nothing: these are definitions.
-use Rattle.std.specs.Prelude.{◌≡◌, ℕ, zero, suc, ◌+◌, ◌*◌, ◌/◌, ◌%◌, ◌<◌, ◌≤◌, Bool, cond, ◌&&◌, List, [], ◌∷◌, ◌++◌, map, length, take, Some, None, Ok, Err, Option, Result, ◌==◌, nat_le, nat_lt, slice_index}
+use Rattle.std.specs.Prelude.{◌≡◌, ℕ, zero, suc, ◌+◌, ◌*◌, ◌/◌, ◌%◌, ◌<◌, ◌≤◌, Bool, cond, ◌&&◌, List, [], ◌∷◌, ◌++◌, map, length, take, Some, None, Ok, Err, Option, Result, MatchResult, ◌==◌, nat_le, nat_lt, slice_index}
 use Rattle.std.specs.List.{flat_map, AllByRecursion, slice_get}
+use denote.Ref.{Bor}
 use Rattle.rows.specs.Written.{written}
 use Rattle.law.specs.Calls.{Call, born, wed, parted, dies, estate_of, unreadable, call_number, Share, Answer, refused, number, shares}
 use Rattle.wire.specs.declared.Request.{Request}
 use Rattle.wire.specs.declared.Request.TheVariants.{Born, Wed, Parted, Dies, EstateOf}
+use Rattle.wire.specs.declared.Unreadable.{Unreadable}
+use Rattle.wire.specs.declared.Kind.{Kind}
+use Rattle.wire.specs.declared.Kind.TheVariants.{Born as BornKind, Wed as WedKind, Parted as PartedKind, Dies as DiesKind, EstateOf as EstateOfKind}
 use Rattle.wire.specs.declared.Share.{Share as ShareStruct}
-use Rattle.wire.specs.declared.Reply.{Reply}
-use Rattle.wire.specs.declared.Reply.TheVariants.{Refused, Number, Shares}
-use Rattle.wire.specs.declared.Reading.{Reading}
-use Rattle.wire.specs.declared.Reading.TheVariants.{Refused as ReadRefused, Number as ReadNumber, Shares as ReadShares}
+use Rattle.wire.specs.declared.SharesIn.{SharesIn}
+use Rattle.wire.specs.declared.Answer.{Answer as AnswerEnum}
+use Rattle.wire.specs.declared.Answer.TheVariants.{Refused, Number, Shares}
 
 -- A number in four bytes and in eight, low byte first.
 unfoldable pub le4 : ℕ → List ℕ
@@ -93,9 +96,20 @@ call_of (Parted a) = parted a
 call_of (Dies a) = dies a
 call_of (EstateOf a) = estate_of a
 
-abbrev pub call_from : Result Request ℕ → Call
+abbrev pub call_from : Result Request Unreadable → Call
 call_from (Ok q) = call_of q
-call_from (Err p) = unreadable p
+call_from (Err e) = unreadable e.at
+
+-- the number of a kind, and the kind of a call's first byte; a byte that begins no call is unreadable at once
+abbrev pub kind_number : Kind → ℕ
+kind_number BornKind = 0
+kind_number WedKind = 1
+kind_number PartedKind = 2
+kind_number DiesKind = 3
+kind_number EstateOfKind = 4
+
+abbrev pub KindOf : ℕ → Result Kind Unreadable → Type 0
+KindOf byte r = MatchResult r (λ k. kind_number k ≡ byte) (λ e. (5 ≤ byte) × (e.at ≡ 0))
 
 -- ANSWERS. An answer's kind, its values in four bytes each, and the shares behind them, each who in four bytes, up and down in eight.
 abbrev pub answer_kind : Answer → ℕ
@@ -129,7 +143,7 @@ shares_begun k ss = row_bytes 2 (k ∷ []) (flat_map share_bytes ss)
 abbrev pub law_share : ShareStruct → Share
 law_share s = record { who = s.who; up = s.up; down = s.down }
 
-abbrev pub answer_of : Reply → Answer
+abbrev pub answer_of : AnswerEnum (Bor (List ShareStruct)) → Answer
 answer_of (Refused n p) = refused n p
 answer_of (Number n) = number n
 answer_of (Shares ss) = shares (map law_share ss.now)
@@ -162,15 +176,24 @@ share_in (Some (number n)) i = None
 share_in (Some (shares ss)) i = slice_get ss i
 
 -- what the code's values stand for, where they were read from bytes
-abbrev pub answer_from : Option Reading → List ℕ → Option Answer
+abbrev pub answer_from : Option (AnswerEnum ℕ) → List ℕ → Option Answer
 answer_from None bs = None
-answer_from (Some (ReadRefused n p)) bs = Some (refused n p)
-answer_from (Some (ReadNumber n)) bs = Some (number n)
-answer_from (Some (ReadShares n)) bs = Some (shares (shares_from bs 5 n))
+answer_from (Some (Refused n p)) bs = Some (refused n p)
+answer_from (Some (Number n)) bs = Some (number n)
+answer_from (Some (Shares n)) bs = Some (shares (shares_from bs 5 n))
 
 abbrev pub share_from : Option ShareStruct → Option Share
 share_from None = None
 share_from (Some s) = Some (law_share s)
+
+-- the shares of an answer that was read; none of other answers, and where there is none
+abbrev pub read_shares : Option Answer → List Share
+read_shares None = []
+read_shares (Some a) = answer_shares a
+
+-- the shares that an iterator over bytes has left
+abbrev pub shares_left : SharesIn → List Share
+shares_left s = shares_from s.rest.now 0 (length s.rest.now / 20)
 
 -- READING BACK. What fits its bytes.
 abbrev pub is_byte : ℕ → Type 0

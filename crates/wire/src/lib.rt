@@ -8,10 +8,12 @@ ghost use Rattle.wire.specs.Bytes.{le4, num4, num8, row_bytes, laid_over, laid_l
 ghost use Rattle.wire.specs.Bytes.{call_bytes, call_with, call_size, call_length, read, call_of, call_from};
 ghost use Rattle.wire.specs.Bytes.{answer_bytes, answer_shares, answer_of, answer_fits, share_bytes, shares_begun, law_share};
 ghost use Rattle.wire.specs.Bytes.{answer_read, answer_from, share_at, share_in, share_from};
+ghost use Rattle.std.specs.Iterator.{YieldsFirstBy, item_count};
+ghost use Rattle.wire.specs.Bytes.{KindOf, kind_number, shares_left, read_shares};
 ghost use Rattle.wire.specs.Bytes.{CallsReadBack, ReadsRightly, AnswersReadBack};
 
 // A call: mother and father of one who is born, each 0 or one more than a number; those who wed; one of two who part; who dies; whose estate is asked for.
-#[derive(Clone, Copy)]
+#[derive(Clone, Copy, Debug, PartialEq, Eq)]
 pub enum Request {
     Born(u32, u32),
     Wed(u32, u32),
@@ -20,8 +22,53 @@ pub enum Request {
     EstateOf(u32),
 }
 
+// Bytes that are no call: the place of the first that doesn't fit.
+#[derive(Clone, Copy, Debug, PartialEq, Eq)]
+pub struct Unreadable {
+    pub at: u32,
+}
+
+// The kind of a call, which its first byte says.
+#[derive(Clone, Copy, Debug, PartialEq, Eq)]
+enum Kind {
+    Born,
+    Wed,
+    Parted,
+    Dies,
+    EstateOf,
+}
+
+impl TryFrom<u8> for Kind {
+    type Error = Unreadable;
+
+    ghost try_from_gives = { KindOf };
+
+    fn try_from(byte: u8) -> Result<Self, Unreadable> {
+        match byte {
+            0 => Ok(Kind::Born),
+            1 => Ok(Kind::Wed),
+            2 => Ok(Kind::Parted),
+            3 => Ok(Kind::Dies),
+            4 => Ok(Kind::EstateOf),
+            _ => Err(Unreadable { at: 0 }),
+        }
+    }
+}
+
+impl Kind {
+    // How many bytes a call of the kind has.
+    fn size(self) -> usize
+        ensures value { result ≡ call_size (kind_number self) }
+    {
+        match self {
+            Kind::Born | Kind::Wed => 9,
+            Kind::Parted | Kind::Dies | Kind::EstateOf => 5,
+        }
+    }
+}
+
 // An heir's share: up by down of the estate.
-#[derive(Clone, Copy)]
+#[derive(Clone, Copy, Debug, PartialEq, Eq)]
 pub struct Share {
     pub who: u32,
     pub up: u64,
@@ -29,30 +76,33 @@ pub struct Share {
 }
 
 // An answer: a refusal and its place, a number, or the shares of an estate.
-#[derive(Clone, Copy)]
-pub enum Reply<'a> {
+// Refusals are numbers here, since the bytes of an answer can hold any number.
+#[derive(Clone, Copy, Debug, PartialEq, Eq)]
+pub enum Answer<S> {
     Refused(u32, u32),
     Number(u32),
-    Shares(&'a [Share]),
+    Shares(S),
 }
 
-// As many shares as four bytes can count.
-const MOST_SHARES: usize = 4294967295;
+// An answer that is written, with its shares.
+pub type Reply<'a> = Answer<&'a [Share]>;
 
-// What an answer's bytes begin with: a refusal and its place, a number, or how many shares there are.
-#[derive(Clone, Copy)]
-pub enum Reading {
-    Refused(u32, u32),
-    Number(u32),
-    Shares(u32),
-}
+// What an answer's bytes begin with, with how many shares there are.
+pub type Reading = Answer<u32>;
+
+// The kinds of answers, by their first byte.
+const REFUSED: u8 = 0;
+
+const NUMBER: u8 = 1;
+
+const SHARES: u8 = 2;
 
 // The number in the four bytes from a place on.
 fn word_at(bytes: &[u8], at: usize) -> u32
     requires room { at + 4 ≤ length bytes.now }
     ensures value { result ≡ num4 bytes.now at }
 {
-    u32::from_le_bytes([bytes[at], bytes[at + 1], bytes[at + 2], bytes[at + 3]])
+    u32::from_le_bytes(*bytes[at..].first_chunk().unwrap())
 }
 
 // The number in the eight bytes from a place on.
@@ -60,111 +110,73 @@ fn long_at(bytes: &[u8], at: usize) -> u64
     requires room { at + 8 ≤ length bytes.now }
     ensures value { result ≡ num8 bytes.now at }
 {
-    u64::from_le_bytes([
-        bytes[at],
-        bytes[at + 1],
-        bytes[at + 2],
-        bytes[at + 3],
-        bytes[at + 4],
-        bytes[at + 5],
-        bytes[at + 6],
-        bytes[at + 7],
-    ])
+    u64::from_le_bytes(*bytes[at..].first_chunk().unwrap())
 }
 
-// Writes a number into the four bytes from a place on.
-fn put_word(out: &mut [u8], at: usize, value: u32)
-    requires room { at + 4 ≤ length out.old }
-    ensures left { out.new ≡ written at (le4 value) out.old }
-{
-    rows::put(out, at, &value.to_le_bytes());
-}
-
-// Writes a kind and one value.
-fn put_one(out: &mut [u8], kind: u8, value: u32)
-    requires room { 5 ≤ length out.old }
-    ensures left { out.new ≡ written 0 (row_bytes kind (value ∷ []) []) out.old }
+// Writes a kind and the values of a call or an answer.
+fn put_row(out: &mut [u8], kind: u8, values: &[u32])
+    requires room { 1 + 4 * length values.now ≤ length out.old }
+    ensures left { out.new ≡ written 0 (row_bytes kind values.now []) out.old }
 {
     out[0] = kind;
-    put_word(out, 1, value);
-}
-
-// Writes a kind and two values.
-fn put_two(out: &mut [u8], kind: u8, first: u32, second: u32)
-    requires room { 9 ≤ length out.old }
-    ensures left { out.new ≡ written 0 (row_bytes kind (first ∷ second ∷ []) []) out.old }
-{
-    put_one(out, kind, first);
-    put_word(out, 5, second);
+    for (i, value) in values.iter().enumerate() {
+        rows::put(out, 1 + 4 * i, &value.to_le_bytes());
+    }
 }
 
 // How many bytes a call has, by its first byte; none where that is no call's.
 pub fn call_length(kind: u8) -> Option<usize>
     ensures value { result ≡ call_length kind }
 {
-    match kind {
-        0 | 1 => Some(9),
-        2 | 3 | 4 => Some(5),
-        _ => None,
-    }
+    Kind::try_from(kind).ok().map(|kind| kind.size())
 }
 
-// The call in a row of bytes that is as long as its first byte says.
-fn request_in(row: &[u8]) -> Request
-    requires known { slice_index row.now 0 < 5 }
-    requires whole { length row.now ≡ call_size (slice_index row.now 0) }
-    ensures value { call_of result ≡ call_with (slice_index row.now 0) (num4 row.now 1) (num4 row.now 5) }
+// The call of a kind in a row of bytes that is as long as the kind says.
+fn request_in(kind: Kind, row: &[u8]) -> Request
+    requires whole { length row.now ≡ call_size (kind_number kind) }
+    ensures value { call_of result ≡ call_with (kind_number kind) (num4 row.now 1) (num4 row.now 5) }
 {
-    match row[0] {
-        0 => Request::Born(word_at(row, 1), word_at(row, 5)),
-        1 => Request::Wed(word_at(row, 1), word_at(row, 5)),
-        2 => Request::Parted(word_at(row, 1)),
-        3 => Request::Dies(word_at(row, 1)),
-        _ => Request::EstateOf(word_at(row, 1)),
+    match kind {
+        Kind::Born => Request::Born(word_at(row, 1), word_at(row, 5)),
+        Kind::Wed => Request::Wed(word_at(row, 1), word_at(row, 5)),
+        Kind::Parted => Request::Parted(word_at(row, 1)),
+        Kind::Dies => Request::Dies(word_at(row, 1)),
+        Kind::EstateOf => Request::EstateOf(word_at(row, 1)),
     }
 }
 
 // The call that a row of bytes is, or the place of the first byte that doesn't fit.
-pub fn decode(row: &[u8]) -> Result<Request, u32>
+pub fn decode(row: &[u8]) -> Result<Request, Unreadable>
     ensures value { call_from result ≡ read row.now }
 {
-    if row.len() == 0 {
-        return Err(0);
-    }
-    let Some(size) = call_length(row[0]) else {
-        return Err(0);
+    let Some(first) = row.first() else {
+        return Err(Unreadable { at: 0 });
     };
+    let kind = Kind::try_from(*first)?;
+    let size = kind.size();
     if row.len() < size {
-        return Err(row.len() as u32);
+        return Err(Unreadable {
+            at: row.len() as u32,
+        });
     }
     if row.len() > size {
-        return Err(size as u32);
+        return Err(Unreadable { at: size as u32 });
     }
-    Ok(request_in(row))
+    Ok(request_in(kind, row))
 }
 
-// Writes a kind and one value, and says how many bytes they have. None where there is no room.
-fn lay_one(out: &mut [u8], kind: u8, value: u32) -> Option<usize>
-    ensures left { out.new ≡ laid_over (row_bytes kind (value ∷ []) []) out.old }
-    ensures value { result ≡ laid_length (row_bytes kind (value ∷ []) []) out.old }
+// Writes a call of a kind, and says how many bytes it has. None where there is no room.
+fn lay_call(out: &mut [u8], kind: Kind, values: &[u32]) -> Option<usize>
+    requires few { length values.now ≤ 2 }
+    ensures left { out.new ≡ laid_over (row_bytes (kind_number kind) values.now []) out.old }
+    ensures value { result ≡ laid_length (row_bytes (kind_number kind) values.now []) out.old }
 {
-    if out.len() < 5 {
+    let length = 1 + 4 * values.len();
+    if out.len() < length {
         return None;
     }
-    put_one(out, kind, value);
-    Some(5)
-}
-
-// Writes a kind and two values, and says how many bytes they have. None where there is no room.
-fn lay_two(out: &mut [u8], kind: u8, first: u32, second: u32) -> Option<usize>
-    ensures left { out.new ≡ laid_over (row_bytes kind (first ∷ second ∷ []) []) out.old }
-    ensures value { result ≡ laid_length (row_bytes kind (first ∷ second ∷ []) []) out.old }
-{
-    if out.len() < 9 {
-        return None;
-    }
-    put_two(out, kind, first, second);
-    Some(9)
+    put_row(out, kind as u8, values);
+    Some(length)
 }
 
 // Writes a call from the start on and says how many bytes it has. What lies behind stays as it was.
@@ -174,34 +186,30 @@ pub fn put_call(request: Request, out: &mut [u8]) -> Option<usize>
     ensures value { result ≡ laid_length (call_bytes (call_of request)) out.old }
 {
     match request {
-        Request::Born(mother, father) => lay_two(out, 0, mother, father),
-        Request::Wed(first, second) => lay_two(out, 1, first, second),
-        Request::Parted(who) => lay_one(out, 2, who),
-        Request::Dies(who) => lay_one(out, 3, who),
-        Request::EstateOf(who) => lay_one(out, 4, who),
+        Request::Born(mother, father) => lay_call(out, Kind::Born, &[mother, father]),
+        Request::Wed(first, second) => lay_call(out, Kind::Wed, &[first, second]),
+        Request::Parted(who) => lay_call(out, Kind::Parted, &[who]),
+        Request::Dies(who) => lay_call(out, Kind::Dies, &[who]),
+        Request::EstateOf(who) => lay_call(out, Kind::EstateOf, &[who]),
     }
 }
 
 // Calls read back: the bytes of a call whose values fit are that call.
-pub fn call_again() -> u8
+pub fn call_again()
     ensures holds { CallsReadBack }
-{
-    0
-}
+{}
 
 // Reading is right: only a call's own bytes are read as that call, and all others are unreadable at the first byte that doesn't fit.
-pub fn reads_rightly() -> u8
+pub fn reads_rightly()
     ensures holds { ReadsRightly }
-{
-    0
-}
+{}
 
 // Writes the answer that a call is refused, by which refusal and at which place.
 pub fn put_refusal(out: &mut [u8], refusal: u32, place: u32)
     requires room { 9 ≤ length out.old }
     ensures left { out.new ≡ written 0 (answer_bytes (refused refusal place)) out.old }
 {
-    put_two(out, 0, refusal, place);
+    put_row(out, REFUSED, &[refusal, place]);
 }
 
 // Writes the answer that is a number.
@@ -209,7 +217,7 @@ pub fn put_number(out: &mut [u8], value: u32)
     requires room { 5 ≤ length out.old }
     ensures left { out.new ≡ written 0 (answer_bytes (number value)) out.old }
 {
-    put_one(out, 1, value);
+    put_row(out, NUMBER, &[value]);
 }
 
 // Writes what an answer of so many shares begins with.
@@ -217,7 +225,7 @@ pub fn put_count(out: &mut [u8], count: u32)
     requires room { 5 ≤ length out.old }
     ensures left { out.new ≡ written 0 (shares_begun count []) out.old }
 {
-    put_one(out, 2, count);
+    put_row(out, SHARES, &[count]);
 }
 
 // Writes a share from a place on.
@@ -258,7 +266,7 @@ fn reply_length(reply: Reply) -> Option<usize>
         Reply::Refused(_, _) => Some(9),
         Reply::Number(_) => Some(5),
         Reply::Shares(heirs) => {
-            if heirs.len() > MOST_SHARES {
+            if heirs.len() > u32::MAX as usize {
                 return None;
             }
             Some(5 + 20 * heirs.len())
@@ -293,9 +301,9 @@ pub fn read_answer(bytes: &[u8]) -> Option<Reading>
     }
     let first = word_at(bytes, 1);
     match bytes[0] {
-        0 if bytes.len() == 9 => Some(Reading::Refused(first, word_at(bytes, 5))),
-        1 if bytes.len() == 5 => Some(Reading::Number(first)),
-        2 if bytes.len() == 5 + 20 * first as usize => Some(Reading::Shares(first)),
+        REFUSED if bytes.len() == 9 => Some(Reading::Refused(first, word_at(bytes, 5))),
+        NUMBER if bytes.len() == 5 => Some(Reading::Number(first)),
+        SHARES if bytes.len() == 5 + 20 * first as usize => Some(Reading::Shares(first)),
         _ => None,
     }
 }
@@ -325,32 +333,53 @@ pub fn read_share(bytes: &[u8], index: u32) -> Option<Share>
     Some(share_at(bytes, 5 + 20 * index as usize))
 }
 
-// Answers read back: the bytes of an answer whose values fit are that answer.
-pub fn answer_again() -> u8
-    ensures holds { AnswersReadBack }
-{
-    0
+// The shares in bytes, one after the other.
+#[derive(Drop)]
+pub struct SharesIn<'a> {
+    rest: &'a [u8],
 }
+
+impl<'a> Iterator for SharesIn<'a> {
+    type Item = Share;
+
+    ghost next_gives = { YieldsFirstBy law_share shares_left };
+
+    ghost remaining = { item_count shares_left };
+
+    fn next(&mut self) -> Option<Share> {
+        let (first, rest) = self.rest.split_first_chunk::<20>()?;
+        self.rest = rest;
+        Some(share_at(first, 0))
+    }
+}
+
+// The shares in a row of bytes, in their order; none where it is no answer of shares.
+pub fn shares_in(bytes: &[u8]) -> SharesIn<'_>
+    ensures value { shares_left result ≡ read_shares (answer_read bytes.now) }
+{
+    match read_answer(bytes) {
+        Some(Reading::Shares(_)) => SharesIn { rest: &bytes[5..] },
+        Some(Reading::Refused(_, _)) => SharesIn { rest: &[] },
+        Some(Reading::Number(_)) => SharesIn { rest: &[] },
+        None => SharesIn { rest: &[] },
+    }
+}
+
+// Answers read back: the bytes of an answer whose values fit are that answer.
+pub fn answer_again()
+    ensures holds { AnswersReadBack }
+{}
 
 #[cfg(test)]
 mod tests {
     use super::*;
-    use std::test::Fail;
-
-    // The place at which a row of bytes is no call; 99 for a call.
-    fn place_in(row: &[u8]) -> u32 {
-        match decode(row) {
-            Ok(_) => 99,
-            Err(place) => place,
-        }
-    }
 
     #[test]
     fn no_call_at_all(rt: HostRuntime) {
-        assert_eq!(rt; place_in(&[]), 0);
-        assert_eq!(rt; place_in(&[5]), 0);
-        assert_eq!(rt; place_in(&[255, 0, 0, 0, 0]), 0);
-        assert_eq!(rt; place_in(&[7; 40]), 0);
+        assert_eq!(rt; decode(&[]), Err(Unreadable { at: 0 }));
+        assert_eq!(rt; decode(&[5]), Err(Unreadable { at: 0 }));
+        assert_eq!(rt; decode(&[255, 0, 0, 0, 0]), Err(Unreadable { at: 0 }));
+        assert_eq!(rt; decode(&[7; 40]), Err(Unreadable { at: 0 }));
     }
 
     #[test]
@@ -360,39 +389,29 @@ mod tests {
             row[0] = kind;
             assert_eq!(rt; call_length(kind), Some(size));
             for n in 1..size {
-                assert_eq!(rt; place_in(&row[0..n]), n as u32);
+                assert_eq!(rt; decode(&row[0..n]), Err(Unreadable { at: n as u32 }));
             }
-            assert_eq!(rt; place_in(&row[0..size]), 99);
-            assert_eq!(rt; place_in(&row[0..size + 1]), size as u32);
+            assert!(rt; decode(&row[0..size]).is_ok());
+            assert_eq!(rt;
+                decode(&row[0..size + 1]),
+                Err(Unreadable { at: size as u32 })
+            );
         }
     }
 
-    fn number(value: u32) -> Reply<'static> {
-        Reply::Number(value)
-    }
-
-    fn refused(refusal: u32, place: u32) -> Reply<'static> {
-        Reply::Refused(refusal, place)
-    }
-
     #[test]
-    fn answers_again(rt: HostRuntime) -> Result<(), Fail> {
+    fn answers_again(rt: HostRuntime) {
         let mut out = [7; 10];
-        assert_eq!(rt; encode(number(258), &mut out), Some(5));
+        assert_eq!(rt; encode(Reply::Number(258), &mut out), Some(5));
         assert!(rt; out[0] == 1 && out[1] == 2 && out[2] == 1 && out[5] == 7);
-        let Some(Reading::Number(258)) = read_answer(&out[0..5]) else {
-            return Err(Fail::new("the number"));
-        };
-        assert_eq!(rt; encode(refused(5, 65536), &mut out), Some(9));
-        let Some(Reading::Refused(5, 65536)) = read_answer(&out[0..9]) else {
-            return Err(Fail::new("the refusal"));
-        };
-        assert!(rt; read_answer(&out).is_none());
-        Ok(())
+        assert_eq!(rt; read_answer(&out[0..5]), Some(Reading::Number(258)));
+        assert_eq!(rt; encode(Reply::Refused(5, 65536), &mut out), Some(9));
+        assert_eq!(rt; read_answer(&out[0..9]), Some(Reading::Refused(5, 65536)));
+        assert_eq!(rt; read_answer(&out), None);
     }
 
     #[test]
-    fn shares_again(rt: HostRuntime) -> Result<(), Fail> {
+    fn shares_again(rt: HostRuntime) {
         let heirs = [
             Share {
                 who: 2,
@@ -407,24 +426,21 @@ mod tests {
         ];
         let mut out = [7; 46];
         assert_eq!(rt; encode(Reply::Shares(&heirs), &mut out), Some(45));
-        let Some(share) = read_share(&out[0..45], 1) else {
-            return Err(Fail::new("the share"));
-        };
-        assert!(rt; share.who == 65536 && share.up == 3 && share.down == 4294967296);
-        assert!(rt; read_share(&out[0..45], 2).is_none() && read_share(&out, 1).is_none());
-        Ok(())
+        assert_eq!(rt; read_share(&out[0..45], 1), Some(heirs[1]));
+        assert_eq!(rt; read_share(&out[0..45], 2), None);
+        assert_eq!(rt; read_share(&out, 1), None);
+        assert!(rt; shares_in(&out[0..45]).eq(heirs));
+        assert_eq!(rt; shares_in(&out).next(), None);
     }
 
     #[test]
-    fn calls_again(rt: HostRuntime) -> Result<(), Fail> {
+    fn calls_again(rt: HostRuntime) {
         let mut out = [7; 9];
-        assert_eq!(rt; put_call(Request::Born(1, 4294967295), &mut out), Some(9));
-        let Ok(Request::Born(1, 4294967295)) = decode(&out) else {
-            return Err(Fail::new("the birth"));
-        };
+        let birth = Request::Born(1, 4294967295);
+        assert_eq!(rt; put_call(birth, &mut out), Some(9));
+        assert_eq!(rt; decode(&out), Ok(birth));
         assert_eq!(rt; put_call(Request::EstateOf(6), &mut out[0..4]), None);
         assert_eq!(rt; put_call(Request::EstateOf(6), &mut out), Some(5));
-        assert_eq!(rt; place_in(&out), 5);
-        Ok(())
+        assert_eq!(rt; decode(&out), Err(Unreadable { at: 5 }));
     }
 }

@@ -11,7 +11,7 @@ decreases-line l = l.steps
 
 abbrev pub invariant-loop-turn : goal.invariant-loop-turn
 invariant-loop-turn l =
-    (limit_in l.memory ≡ limit_in l.initial.memory) × (count_in l.memory ≡ count_in l.initial.memory)
+    (limit_in l.memory ≡ limit_in l.initial.memory) × (count_in l.memory ≡ count_in l.initial.memory) × (l.count ≤ 4096 → l.at ≤ 4096)
     × ((n : ℕ) (f : Family) (rk : ℕ → ℕ) (ps : List Part) (spare rest : List ℕ) → Ready l.initial.memory n f rk ps spare rest l.steps l.who l.count →
     (l.link ≡ first_of (drop l.turn (children f l.who)))
     × (l.memory ≡ with_parts n f (ps ++ parts_below f l.each (take l.turn (children f l.who))) spare rest)

@@ -16,6 +16,7 @@ returns c =
     record {
       limit = ap (λ u. get_or u 0 0) put ∙ get_or-written_before (at + 2 * c.args.count) 0 q ws 0 (omega (arith, c.work_at-at.ensures.value));
       count = ap (λ u. get_or u 1 0) put ∙ get_or-written_before (at + 2 * c.args.count) 1 q ws 0 (omega (arith, c.work_at-at.ensures.value));
+      within = λ h. omega arith;
       gone = λ n f ps spare rest e many few.
           let l = limit_laid ws n (length f) (person_row f) (link_row f) (alive f) _ rest e in (
             omega arith,

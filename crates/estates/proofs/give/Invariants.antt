@@ -8,7 +8,10 @@ use Rattle.estates.proofs.give.Given as goal
 
 abbrev pub invariant-loop-i : goal.invariant-loop-i
 invariant-loop-i l =
-    (limit_in l.memory ≡ limit_in l.initial.memory) × (count_in l.memory ≡ count_in l.initial.memory)
-    × ((n : ℕ) (f : Family) (ss : List Part) (rows : Rows) (spare rest : List ℕ) → Rowed l.initial.memory n f ss rows spare rest → length ss ≡ l.count → AllByRecursion (λ (s : Part). s.who < n) ss →
-    sum (started l.times l.whole ss rows.pieces) < 4294967296 →
-    (row : List ℕ) × Rowed l.memory n f ss (with_pieces rows row) spare rest × (started l.times l.whole (drop l.i ss) row ≡ started l.times l.whole ss rows.pieces))
+    record {
+      limit : limit_in l.memory ≡ limit_in l.initial.memory;
+      count : count_in l.memory ≡ count_in l.initial.memory;
+      given : (n : ℕ) (f : Family) (ss : List Part) (rows : Rows) (spare rest : List ℕ) → Rowed l.initial.memory n f ss rows spare rest → length ss ≡ l.count → AllByRecursion (λ (s : Part). s.who < n) ss →
+          sum (started l.times l.whole ss rows.pieces) < 4294967296 →
+          (row : List ℕ) × Rowed l.memory n f ss (with_pieces rows row) spare rest × (started l.times l.whole (drop l.i ss) row ≡ started l.times l.whole ss rows.pieces);
+    }

@@ -4,7 +4,7 @@ use Rattle.exports.proofs.Replies.{short_answer, called_taken, called_refused, f
 use Rattle.exports.proofs.answer_row.Goals as goal
 
 pub returns-in-Ok : goal.returns-in-Ok
-returns-in-Ok c =
+returns-in-Ok g c =
     let ws = c.args.memory.now in
     let lent = c.args.answer.now in
     let later = c.respond.new.memory in
@@ -21,7 +21,7 @@ returns-in-Ok c =
     }
 
 pub returns-in-Err : goal.returns-in-Err
-returns-in-Err c =
+returns-in-Err g c =
     let ws = c.args.memory.now in
     let e = c.in-Err.refusal in
     let told = bits_back c.signed_by.result c.signed_by.type_inv ∙ c.signed_by.ensures.value in

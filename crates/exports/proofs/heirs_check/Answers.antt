@@ -1,8 +1,9 @@
 use Rattle.std.proofs.Common.{◌≡◌, ◌≤◌, length, pos, arith, w64, to_z}
 use Rattle.std.proofs.lemmas.Int.{to_z_pos}
+use Rattle.law.specs.Promise.{all_calls}
 use Rattle.people.specs.Layout.{limit_in, count_in}
 use Rattle.service.specs.Desks.{bytes_asked}
-use Rattle.registry.proofs.Promises.{resumed_right}
+use Rattle.register.proofs.Promises.{resumed_right}
 use Rattle.exports.proofs.heirs_check.Goals as goal
 
 pub returns : goal.returns
@@ -18,6 +19,6 @@ returns c =
             exact = λ k e. (ok, room);
             no_register = λ none. absurd (none ok);
             too_small = λ _ less. absurd (omega arith);
-            promised = λ k e rest cs. resumed_right ws rest cs ok;
+            promised = λ k e rest cs. resumed_right all_calls ws rest cs ok;
           };
     }

@@ -1,24 +1,40 @@
-use Rattle.std.proofs.Common.{sym, ap, ◌∙◌}
-use Rattle.children.specs.Links.{first_of}
+use Rattle.std.proofs.Common.{◌-◌, ◌<◌, sym, refl, ap, ◌∙◌, subst, arith, rules}
+use borrow.Author.Tests.{tests}
+use Rattle.std.specs.List.{range_with_len}
+use Rattle.std.specs.Option.{IfSome}
+use Rattle.std.proofs.lemmas.Iterator.{YieldsList-from_range}
+use Rattle.std.proofs.lemmas.Iterator.Adapters.{option_map_id}
+use Rattle.std.proofs.lemmas.Iterator.Search.{find_from_yields_List}
+use Rattle.std.proofs.lemmas.Option.{IfSome_then}
+use Rattle.law.specs.Family.{is_child}
 use Rattle.people.specs.Layout.{family_in, count_in}
-use Rattle.inspection.proofs.Scans.{first_here, child_later, first_none}
+use Rattle.people.specs.Persons.{link_of}
+use Rattle.inspection.proofs.Scans.{first_found, found_below, range_below}
 use Rattle.inspection.proofs.child_from.Goals as goal
 
-pub returns-then-is_child : goal.returns-then-is_child
-returns-then-is_child c =
-    let ws = c.args.memory.now in
+pub link_to-requires : goal.link_to-requires
+link_to-requires c =
+    let f = family_in c.args.memory.now in
+    let p = c.args.parent in
+    let k = count_in c.args.memory.now in
+    let from = c.args.from in
+    let r = c.find-first.result in
+    let found =
+    find_from_yields_List (is_child f p) c.find-first.new.self _ r c.find-first.ensures.ran (YieldsList-from_range from k (k - from) refl refl)
+    (λ x b q call. search (rules, tests)) in
     record {
-      value = sym (ap first_of c.loop-child.invariant ∙ first_here (family_in ws) c.args.parent (count_in ws) c.loop-child.child c.loop-child-test.true (sym c.if-is_child.ensures.value));
+      number = IfSome_then r
+          (subst (λ o. IfSome o (λ x. x < k)) (sym found ∙ option_map_id r) (found_below k (is_child f p) (range_with_len from (k - from)) (range_below k from (k - from) (λ some. omega arith))))
+          (λ x h. omega (arith, c.requires.room));
     }
-
-pub loop-child-preserved : goal.loop-child-preserved
-loop-child-preserved c =
-    let ws = c.args.memory.now in
-    c.loop-child.invariant ∙ child_later (family_in ws) c.args.parent (count_in ws) c.loop-child.child c.loop-child-test.true (sym c.if-is_child.ensures.value)
 
 pub returns : goal.returns
 returns c =
-    let ws = c.args.memory.now in
-    record {
-      value = sym (ap first_of c.loop-child.invariant ∙ first_none (family_in ws) c.args.parent (count_in ws) c.loop-child.child c.loop-child-test.false);
-    }
+    let f = family_in c.args.memory.now in
+    let p = c.args.parent in
+    let k = count_in c.args.memory.now in
+    let from = c.args.from in
+    let found =
+    find_from_yields_List (is_child f p) c.find-first.new.self _ c.find-first.result c.find-first.ensures.ran (YieldsList-from_range from k (k - from) refl refl)
+    (λ x b q call. search (rules, tests)) in
+    record { value = c.link_to.ensures.value ∙ ap link_of (sym (option_map_id c.find-first.result) ∙ found) ∙ first_found f p (k - from) from }

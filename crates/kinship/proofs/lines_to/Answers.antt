@@ -35,7 +35,7 @@ returns c =
       value =
           IfOk-weaker c.living_lines.result _ _
           (λ v e rk s there.
-          row_to (family_of c.args.family.now) c.args.who (length c.args.family.now) c.as_slice.result.now (vec_items v) rk s (omega arith) (sym size)
-          (ap family_of c.as_slice.ensures.value ∙ c.in_ok-only.ensures.value) e)
+          row_to (family_of c.args.family.now) c.args.who (length c.args.family.now) c.deref.result.now (vec_items v) rk s (omega arith) (sym size)
+          (ap family_of c.deref.ensures.value ∙ c.in_ok-only.ensures.value) e)
           c.living_lines.ensures.value;
     }

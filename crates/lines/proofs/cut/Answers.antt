@@ -1,43 +1,38 @@
--- The first place of a word. Assumes nothing.
-use Rattle.std.proofs.Common.{◌≡◌, ℕ, ◌+◌, ◌-◌, ◌<◌, ◌≤◌, true, List, length, take, drop, Some, sym, ap, ◌∙◌, arith}
+-- What is before and behind a word. Assumes nothing.
+use Rattle.std.proofs.Common.{rules, ℕ, ◌+◌, ◌≤◌, List, length, take, drop, Some, ap, ◌∙◌, arith}
+use Rattle.std.specs.Option.{option_map}
 use Rattle.std.proofs.lemmas.List.{length-drop, take_rest}
-use Rattle.lines.specs.Words.{begins}
-use Rattle.lines.proofs.Cuts.{begins_long, passed_none, passed_more, passed_all, passed_here}
+use Rattle.lines.specs.Words.{halves, StandsFirst}
+use Rattle.lines.proofs.Cuts.{begins_long, cut_nowhere, cut_first}
 use Rattle.lines.proofs.cut.Goals as goal
 
+pub returns-in_err-at : goal.returns-in_err-at
+returns-in_err-at c =
+    record { value = ap (option_map halves) c.from_residual.ensures ∙ cut_nowhere c.args.word.now c.args.text.now c.in_err-at.ensures.cases }
+
 -- the word fits where it stands
-fits : (w bs : List ℕ) (at : ℕ) → at < length bs → true ≡ begins w (take (length bs - at) (drop at bs)) → at + length w ≤ length bs
-fits w bs at h e = omega (arith, begins_long w (drop at bs) (sym (e ∙ ap (begins w) (take_rest bs at))), length-drop at bs)
+fits : (w bs : List ℕ) (at : ℕ) → StandsFirst w bs at → at + length w ≤ length bs
+fits w bs at h = omega (arith, begins_long w (drop at bs) h.here, length-drop at bs, h.inside)
 
-pub loop-at-init : goal.loop-at-init
-loop-at-init c = passed_none c.args.word.now c.args.text.now
+pub slice_bounds-result-end : goal.slice_bounds-result-end
+slice_bounds-result-end c = let h = c.in_ok-at.ensures.cases.inside in search rules
 
-pub loop-at-preserved : goal.loop-at-preserved
-loop-at-preserved c =
-    let w = c.args.word.now in
-    let bs = c.args.text.now in
-    let at = c.loop-at.at in
-    passed_more w bs at (omega arith) (sym (c.if-begins_with.ensures.value ∙ ap (begins w) (take_rest bs at))) c.loop-at.invariant
+pub overflow_add-result : goal.overflow_add-result
+overflow_add-result c = let h = fits _ _ _ c.in_ok-at.ensures.cases in search rules
 
-pub slice_bounds-result-count-then-begins_with : goal.slice_bounds-result-count-then-begins_with
-slice_bounds-result-count-then-begins_with c =
-    omega (arith, fits c.args.word.now c.args.text.now c.loop-at.at (omega arith) c.if-begins_with.ensures.value)
+pub slice_bounds-result-count : goal.slice_bounds-result-count
+slice_bounds-result-count c = fits _ _ _ c.in_ok-at.ensures.cases
 
-pub slice_bounds-result-start-then-begins_with : goal.slice_bounds-result-start-then-begins_with
-slice_bounds-result-start-then-begins_with c =
-    omega (arith, fits c.args.word.now c.args.text.now c.loop-at.at (omega arith) c.if-begins_with.ensures.value)
-
-pub returns-then-begins_with : goal.returns-then-begins_with
-returns-then-begins_with c =
-    let w = c.args.word.now in
-    let bs = c.args.text.now in
-    let at = c.loop-at.at in
-    record {
-      value =
-          (λ i. Some (record { before = take (at - 0) bs; behind = take_rest bs (at + length w) i }))
-          ∙ (ap (λ (k : ℕ). Some (record { before = take k bs; behind = drop (at + length w) bs })) (omega arith)
-          ∙ passed_here w bs at (omega arith) (sym (c.if-begins_with.ensures.value ∙ ap (begins w) (take_rest bs at))) c.loop-at.invariant);
-    }
+pub slice_bounds-result-start : goal.slice_bounds-result-start
+slice_bounds-result-start c = let h = fits _ _ _ c.in_ok-at.ensures.cases in search rules
 
 pub returns : goal.returns
-returns c = record { value = passed_all c.args.word.now c.args.text.now c.loop-at.at (omega arith) c.loop-at.invariant }
+returns c =
+    let bs = c.args.text.now in
+    let w = c.args.word.now in
+    let at = c.in_ok-at.at in
+    record {
+      value =
+          ap (λ (xs : List ℕ). Some (record { before = take at bs; behind = xs })) (take_rest bs (at + length w))
+          ∙ cut_first w bs at c.in_ok-at.ensures.cases;
+    }

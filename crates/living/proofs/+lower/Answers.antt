@@ -67,8 +67,8 @@ loop-turn-preserved t c =
           let some : Some p ≡ first_unsupported f u (person f who).mother (person f who).father =
           c.in-Some.ensures.value n f u work rest (now, held.1) (omega (arith, (there who).0)) (omega (arith, (there who).1)) ∙ (λ i. first_unsupported f u (m i) (d i)) in
           let out : c.remove.new.memory ≡ laid n (length f) (person_row f) (link_row f) (without_member u p) work rest =
-          changed_laid ws c.remove.new.memory n (length f) f (link_row f) u work rest c.bits_at-at.result p (λ v. without_member v p) now (links_wide f)
-          (omega (arith, c.bits_at-at.ensures.value, c.loop-turn.invariant.0)) (omega (arith, c.in-Some.ensures.within, c.loop-turn.invariant.0)) c.remove.ensures.sets in
+          changed_laid ws c.remove.new.memory n (length f) f (link_row f) u work rest c.marks_at-at.result p (λ v. without_member v p) now (links_wide f)
+          (omega (arith, c.marks_at-at.ensures.value, c.loop-turn.invariant.0)) (omega (arith, c.in-Some.ensures.within, c.loop-turn.invariant.0)) c.remove.ensures.sets in
           c.lower.ensures.left n f (without_member u p) work rest (out, held.1) there
           ∙ ap (λ v. laid n (length f) (person_row f) (link_row f) v work rest) (some_out steps f who p u some ∙ parents_more c.loop-turn.turn steps f who s),
     )

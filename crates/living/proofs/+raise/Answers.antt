@@ -37,7 +37,7 @@ returns-then-contains t c =
       count = refl;
       left = λ n k f links s work rest e wide there le.
           let h : true ≡ s c.in-Some.who =
-          member_laid c.args.memory.now n k f links s work rest c.bits_at-at.result c.in-Some.who true e wide c.bits_at-at.ensures.value (omega (arith, found.1))
+          member_laid c.args.memory.now n k f links s work rest c.marks_at-at.result c.in-Some.who true e wide c.marks_at-at.ensures.value (omega (arith, found.1))
           c.if-contains.ensures.sets in
           e ∙ ap (λ u. laid n k (person_row f) links u work rest) (raised_in c.args.steps f c.args.link c.in-Some.who s found.0 (sym h));
     }
@@ -53,9 +53,9 @@ returns t c =
       left = λ n k f links s work rest e wide there le.
           let small : who < 4096 = omega (arith, found.1) in
           let h : c.contains.result ≡ s who =
-          member_laid ws n k f links s work rest c.bits_at-at.result who c.contains.result e wide c.bits_at-at.ensures.value small c.contains.ensures.sets in
+          member_laid ws n k f links s work rest c.marks_at-at.result who c.contains.result e wide c.marks_at-at.ensures.value small c.contains.ensures.sets in
           let put : c.insert.new.memory ≡ laid n k (person_row f) links (with_member s who) work rest =
-          changed_laid ws c.insert.new.memory n k f links s work rest c.bits_at-at.result who (λ u. with_member u who) e wide c.bits_at-at.ensures.value small c.insert.ensures.sets in
+          changed_laid ws c.insert.new.memory n k f links s work rest c.marks_at-at.result who (λ u. with_member u who) e wide c.marks_at-at.ensures.value small c.insert.ensures.sets in
           let l = limit_laid ws n k (person_row f) links s work rest e in
           let p : law_person c.read-someone.result ≡ person f who =
           c.read-someone.ensures.value ∙ person_laid c.insert.new.memory n k f links (with_member s who) work rest who put (omega (arith, found.1)) in

@@ -8,6 +8,6 @@ pub returns : goal.returns
 returns c =
     record {
       value = λ n k f s work rest e.
-          member_laid c.args.memory.now n k f (link_row f) s work rest c.bits_at.result c.args.who c.contains.result e (links_wide f) c.bits_at.ensures.value (omega arith)
+          member_laid c.args.memory.now n k f (link_row f) s work rest c.marks_at.result c.args.who c.contains.result e (links_wide f) c.marks_at.ensures.value (omega arith)
           c.contains.ensures.sets;
     }

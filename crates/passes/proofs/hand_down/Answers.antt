@@ -1,8 +1,7 @@
-use Rattle.std.proofs.Common.{◌≡◌, ℕ, suc, ◌+◌, ◌-◌, ◌*◌, ◌<◌, List, length, get_or, sym, refl, ap, ◌∙◌, subst, ⊎_elim, arith}
+use Rattle.std.proofs.Common.{◌≡◌, ℕ, suc, ◌+◌, ◌-◌, ◌<◌, ◌≤◌, List, length, get_or, drop, Some, None, sym, ap, ◌∙◌, subst, arith}
 use Rattle.std.proofs.ByRecursion.{All-weaker, All-get_or}
-use Rattle.law.specs.Family.{Family, Part}
-use Rattle.people.specs.Layout.{limit_in}
-use Rattle.amounts.specs.Passes.{handed_on}
+use Rattle.law.specs.Family.{Family}
+use Rattle.amounts.specs.Passes.{handed_on, handed_down}
 use Rattle.amounts.specs.Lines.{divided_among}
 use Rattle.amounts.specs.Statements.{Listing}
 use Rattle.amounts.proofs.Downward.{sum_handed_on}
@@ -10,72 +9,66 @@ use Rattle.amounts.proofs.Turns.{handed_turn, handed_end}
 use Rattle.passes.specs.Rows.{Rows, Rowed, with_pieces}
 use Rattle.passes.specs.Listings.{order_row}
 use Rattle.passes.proofs.Walks.{lines_there}
-use Rattle.passes.proofs.Rows.{rowed_limit, order_read}
 use Rattle.passes.proofs.Downward.{order_place}
 use Rattle.passes.proofs.hand_down.Goals as goal
 
--- the link read from the list, at a turn
-link_at :
-    (ws : List ℕ) (n : ℕ) (f : Family) (ps : List Part) (rows : Rows) (os spare rest : List ℕ) (at count i : ℕ) → Rowed ws n f ps rows spare rest → rows.order ≡ order_row n os → Listing f os →
-    length os ≡ count → i < count → at ≡ 8450 + 9 * limit_in ws + (count - 1 - i) → (get_or ws at 0 ≡ suc (get_or os i 0)) × (get_or os i 0 < length f)
-link_at ws n f ps rows os spare rest at count i held order listing long h e =
-    let l = rowed_limit held in
-    let room = held.room in
-    let most = listing.most in (
-      ap (λ k. get_or ws k 0) (let z : at ≡ 8450 + 9 * n + (length os - 1 - i) = omega arith in z) ∙ order_read held (length os - 1 - i) (omega arith)
-          ∙ ap (λ r. get_or r (length os - 1 - i) 0) order ∙ order_place n os i (omega arith) (omega arith),
-      All-get_or (λ q. q < length f) os i 0 (omega arith) listing.there,
+-- who stands at a place of the list
+stands :
+    (n : ℕ) (f : Family) (rows : Rows) (os : List ℕ) (count place : ℕ) → rows.order ≡ order_row n os → Listing f os → length os ≡ count → length f ≤ n → 0 < place → place ≤ count →
+    (get_or rows.order (place - 1) 0 ≡ suc (get_or os (count - place) 0)) × (get_or os (count - place) 0 < length f)
+stands n f rows os count place order listing long room h l =
+    let most = listing.most in
+    let at : place - 1 ≡ length os - 1 - (count - place) = omega arith in (
+      (λ j. get_or (order j) (at j) 0) ∙ order_place n os (count - place) (omega arith) (omega arith),
+      All-get_or (λ q. q < length f) os (count - place) 0 (omega arith) listing.there,
     )
 
-pub loop-turn-init : goal.loop-turn-init
-loop-turn-init c = (refl, refl, λ n f ps rows os spare rest held order listing long small. (rows.pieces, held, refl, small))
-
-pub loop-turn-preserved : goal.loop-turn-preserved
-loop-turn-preserved c =
-    let i = c.loop-turn.turn in
+pub loop-place-preserved-in-Some : goal.loop-place-preserved-in-Some
+loop-place-preserved-in-Some c =
+    let place = c.loop-place.place in
+    let i = c.args.count - place in
     let who = c.in-Some.who in
-    let met = c.in-Some.ensures.cases in (
-      c.hand_on.ensures.limit ∙ c.loop-turn.invariant.0,
-      c.hand_on.ensures.count ∙ c.loop-turn.invariant.1,
-      λ n f ps rows os spare rest held order listing long small.
-          let inv = c.loop-turn.invariant.2 n f ps rows os spare rest held order listing long small in
-          let row = inv.0 in
-          let at =
-          link_at c.loop-turn.memory n f ps (with_pieces rows row) os spare rest c.order_at.result c.args.count i inv.1 order listing long c.loop-turn-test.true c.order_at.ensures.value in
-          let is : get_or os i 0 ≡ who = let a = at.0 in let b = met.0 in omega (arith, sym at.0 ∙ met.0) in
-          let h : i < length os = omega (arith, c.loop-turn-test.true) in
+    let some = c.loop-place-test.true in
+    let inv = c.loop-place.invariant in
+    record {
+      limit = c.hand_on.ensures.limit ∙ inv.limit;
+      count = c.hand_on.ensures.count ∙ inv.count;
+      handed = λ n f ps rows os spare rest held order listing long small.
+          let (row, now, all, fits) = inv.handed n f ps rows os spare rest held order listing long small in
           let room = held.room in
+          let (at, there) = stands n f rows os c.args.count place order listing long room some (omega arith) in
+          let met : Some who ≡ Some (get_or os i 0) = c.in-Some.ensures.value n f ps (with_pieces rows row) spare rest (get_or os i 0) now at (omega arith) in
+          let is : get_or os i 0 ≡ who = cc in
           let new = handed_on (divided_among f who) who row in
           let less =
-          sum_handed_on (divided_among f who) who row (let t = at.1 in omega (arith, inv.1.pieces_long, is))
-          (All-weaker (λ x. x < length f) (λ x. x < length row) (λ x k. omega (arith, inv.1.pieces_long)) (divided_among f who) (lines_there f who)) in
-          let fits = inv.3 in
-          (new, c.hand_on.ensures.handed n f ps (with_pieces rows row) spare rest inv.1 inv.3, sym (handed_turn (divided_among f) os i who row h is) ∙ inv.2, omega arith),
-    )
-
-pub returns-after-loop-turn : goal.returns-after-loop-turn
-returns-after-loop-turn c =
-    record {
-      limit = c.loop-turn.invariant.0;
-      count = c.loop-turn.invariant.1;
-      handed = λ n f ps rows os spare rest held order listing long small.
-          let inv = c.loop-turn.invariant.2 n f ps rows os spare rest held order listing long small in
-          subst (λ r. Rowed c.loop-turn.memory n f ps (with_pieces rows r) spare rest) (sym (handed_end (divided_among f) os c.loop-turn.turn inv.0 (omega arith)) ∙ inv.2) inv.1;
+          sum_handed_on (divided_among f who) who row (omega (arith, now.pieces_long))
+          (All-weaker (λ x. x < length f) (λ x. x < length row) (λ x k. omega (arith, now.pieces_long)) (divided_among f who) (lines_there f who)) in
+          let next : c.args.count - (place - 1) ≡ i + 1 = omega arith in (
+            new,
+            c.hand_on.ensures.handed n f ps (with_pieces rows row) spare rest now fits,
+            ap (λ k. handed_down (divided_among f) (drop k os) new) next ∙ sym (handed_turn (divided_among f) os i who row (omega arith) is) ∙ all,
+            omega arith,
+          );
     }
 
-pub returns-in_default : goal.returns-in_default
-returns-in_default c =
+pub loop-place-preserved : goal.loop-place-preserved
+loop-place-preserved c =
+    let place = c.loop-place.place in
+    let some = c.loop-place-test.true in
+    let inv = c.loop-place.invariant in
     record {
-      limit = c.loop-turn.invariant.0;
-      count = c.loop-turn.invariant.1;
+      limit = inv.limit;
+      count = inv.count;
       handed = λ n f ps rows os spare rest held order listing long small.
-          let inv = c.loop-turn.invariant.2 n f ps rows os spare rest held order listing long small in
-          let at =
-          link_at c.loop-turn.memory n f ps (with_pieces rows inv.0) os spare rest c.order_at.result c.args.count c.loop-turn.turn inv.1 order listing long c.loop-turn-test.true
-          c.order_at.ensures.value in
-          let l = rowed_limit inv.1 in
+          let (row, now, all, fits) = inv.handed n f ps rows os spare rest held order listing long small in
           let room = held.room in
-          let t = at.1 in
-          let e = at.0 in
-          absurd (⊎_elim (λ z. omega (arith, sym e ∙ z)) (λ z. omega arith) c.in_default.ensures.cases);
+          let (at, there) = stands n f rows os c.args.count place order listing long room some (omega arith) in
+          let met : None ≡ Some (get_or os (c.args.count - place) 0) =
+          c.in_default.ensures.value n f ps (with_pieces rows row) spare rest (get_or os (c.args.count - place) 0) now at (omega arith) in
+          cc;
     }
+
+pub returns-clause-handed : goal.returns-clause-handed
+returns-clause-handed c n f ps rows os spare rest held order listing long small =
+    let (row, now, all, fits) = c.loop-place.invariant.handed n f ps rows os spare rest held order listing long small in
+    subst (λ r. Rowed c.loop-place.memory n f ps (with_pieces rows r) spare rest) (sym (handed_end (divided_among f) os (c.args.count - c.loop-place.place) row (omega arith)) ∙ all) now

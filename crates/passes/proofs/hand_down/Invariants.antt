@@ -1,4 +1,4 @@
-use Rattle.std.proofs.Common.{◌≡◌, ℕ, ◌<◌, List, length, drop, sum}
+use Rattle.std.proofs.Common.{◌≡◌, ℕ, ◌-◌, ◌<◌, List, length, drop, sum}
 use Rattle.law.specs.Family.{Family, Part}
 use Rattle.people.specs.Layout.{limit_in, count_in}
 use Rattle.amounts.specs.Passes.{handed_down}
@@ -8,10 +8,13 @@ use Rattle.passes.specs.Rows.{Rows, Rowed, with_pieces}
 use Rattle.passes.specs.Listings.{order_row}
 use Rattle.passes.proofs.hand_down.Given as goal
 
-abbrev pub invariant-loop-turn : goal.invariant-loop-turn
-invariant-loop-turn l =
-    (limit_in l.memory ≡ limit_in l.initial.memory) × (count_in l.memory ≡ count_in l.initial.memory)
-    × ((n : ℕ) (f : Family) (ps : List Part) (rows : Rows) (os spare rest : List ℕ) → Rowed l.initial.memory n f ps rows spare rest → rows.order ≡ order_row n os → Listing f os →
-    length os ≡ l.count → sum rows.pieces < 4294967296 →
-    (row : List ℕ) × Rowed l.memory n f ps (with_pieces rows row) spare rest
-    × (handed_down (divided_among f) (drop l.turn os) row ≡ handed_down (divided_among f) os rows.pieces) × (sum row < 4294967296))
+abbrev pub invariant-loop-place : goal.invariant-loop-place
+invariant-loop-place l =
+    record {
+      limit : limit_in l.memory ≡ limit_in l.initial.memory;
+      count : count_in l.memory ≡ count_in l.initial.memory;
+      handed : (n : ℕ) (f : Family) (ps : List Part) (rows : Rows) (os spare rest : List ℕ) → Rowed l.initial.memory n f ps rows spare rest → rows.order ≡ order_row n os → Listing f os →
+          length os ≡ l.count → sum rows.pieces < 4294967296 →
+          (row : List ℕ) × Rowed l.memory n f ps (with_pieces rows row) spare rest
+          × (handed_down (divided_among f) (drop (l.count - l.place) os) row ≡ handed_down (divided_among f) os rows.pieces) × (sum row < 4294967296);
+    }

@@ -1,36 +1,37 @@
-use Rattle.std.proofs.Common.{◌+◌, ◌-◌, ◌*◌, ◌≤◌, false, eqb, length, take, drop, refl, ◌∙◌, inl, inr, arith}
+use Rattle.std.proofs.Common.{◌≤◌, length, refl, ◌∙◌, ⊎_elim, arith}
 use Rattle.children.specs.Links.{link_row}
 use Rattle.people.specs.Layout.{limit_in, person_row}
 use Rattle.people.specs.Persons.{law_person}
-use Rattle.people.proofs.Layouts.{limit_laid, limit_said, links_part, person_laid}
+use Rattle.people.proofs.Layouts.{limit_laid, limit_said, links_said, person_laid}
 use Rattle.people.proofs.Links.{no_last, some_last}
 use Rattle.people.proofs.mother_of_last.Goals as goal
-use Rattle.people.proofs.mother_of_last.Goals.{then-last-eq0-via-then-last-eq0, then-last-eq0-via-else-last-eq0+then-last-memory}
 
-pub returns-then-last-eq0 : goal.returns-then-last-eq0
-returns-then-last-eq0 c =
+pub returns-in_default : goal.returns-in_default
+returns-in_default c =
+    record { value = λ n k f s work rest e room p d is last. absurd (⊎_elim (λ z. omega arith) (λ z. omega arith) c.in_default.ensures.cases) }
+
+pub returns-in_default-somebody : goal.returns-in_default-somebody
+returns-in_default-somebody c =
     let ws = c.args.memory.now in
-    let n = limit_in ws in
+    let parent = c.in-Some.ensures.cases in
     record {
-      value = λ n' k f s work rest e' room'.
-          let e = limit_said ws n' k (person_row f) (link_row f) s work rest e' in
-          let room : length f ≤ n = let l = limit_laid ws n' k (person_row f) (link_row f) s work rest e' in omega arith in
-          no_last (take (2 + 4 * n + 4 * n - (2 + 4 * n)) (drop (2 + 4 * n) ws)) n f c.args.parent c.last-last.result (links_part ws n k f f s work rest e) room c.requires.there
-          (omega arith) c.last-last.ensures.value
-          (elim c.then-last-eq0.branch
-          [ then-last-eq0-via-then-last-eq0 w ↦ inl w.if-last-eq0.true | then-last-eq0-via-else-last-eq0+then-last-memory w ↦ inr w.if-last-memory.true ])
-          false;
+      value = λ n k f s work rest e' room'.
+          let e = limit_said ws n k (person_row f) (link_row f) s work rest e' in
+          let room : length f ≤ limit_in ws = let l = limit_laid ws n k (person_row f) (link_row f) s work rest e' in omega arith in
+          no_last c.link_words.result.now (limit_in ws) f c.args.parent c.in-Some.number c.last.result
+          (c.link_words.ensures.value ∙ links_said ws (limit_in ws) k f s work rest e) room parent.0 parent.1
+          c.last.ensures.value c.in_default-somebody.ensures.cases _;
     }
 
 pub returns : goal.returns
 returns c =
     let ws = c.args.memory.now in
-    let n = limit_in ws in
+    let parent = c.in-Some.ensures.cases in
+    let last = c.in-Some-somebody.ensures.cases in
     record {
-      value = λ n' k f s work rest e' room'.
-          let e = limit_said ws n' k (person_row f) (link_row f) s work rest e' in
-          let room : length f ≤ n = let l = limit_laid ws n' k (person_row f) (link_row f) s work rest e' in omega arith in
-          some_last (take (2 + 4 * n + 4 * n - (2 + 4 * n)) (drop (2 + 4 * n) ws)) n f c.args.parent c.last-last.result (law_person c.read.result)
-          (eqb c.read.result.mother c.args.parent) (links_part ws n k f f s work rest e) c.requires.there (omega arith) c.last-last.ensures.value
-          (c.read.ensures.value ∙ person_laid ws n k f (link_row f) s work rest (c.last-last.result - 1) e (omega arith)) refl;
+      value = λ n k f s work rest e' room.
+          let e = limit_said ws n k (person_row f) (link_row f) s work rest e' in
+          some_last c.link_words.result.now (limit_in ws) f c.args.parent c.in-Some.number c.last.result c.in-Some-somebody.last (law_person c.read.result) _
+          (c.link_words.ensures.value ∙ links_said ws (limit_in ws) k f s work rest e) parent.0 parent.1 c.last.ensures.value last.0
+          (c.read.ensures.value ∙ person_laid ws (limit_in ws) k f (link_row f) s work rest c.in-Some-somebody.last e last.1) refl;
     }

@@ -1,10 +1,12 @@
 -- What holds at each turn of the loop that appends the heirs' lines. Assumes nothing.
-use Rattle.std.proofs.Common.{◌≡◌, ◌++◌, take, string_bytes}
+use Rattle.std.proofs.Common.{◌≡◌, ◌++◌, string_bytes}
 use Rattle.std.specs.List.{flat_map}
-use Rattle.wire.specs.Bytes.{shares_from}
-use Rattle.report.specs.Lines.{share_line}
+use Rattle.wire.specs.Bytes.{shares_left}
+use Rattle.report.specs.Lines.{heir_line}
 use Rattle.report.proofs.put_share_lines.Given as goal
 
--- the lines of the shares before the index were appended
-abbrev pub invariant-loop-index : goal.invariant-loop-index
-invariant-loop-index l = string_bytes l.text ≡ string_bytes l.initial.text ++ flat_map share_line (take l.index (shares_from l.answer 5 l.count))
+-- with the lines of the shares that are left, it is the text with all lines
+abbrev pub invariant-loop-share : goal.invariant-loop-share
+invariant-loop-share g l =
+    let line = heir_line (g.N.Naming.named l.naming) in
+    string_bytes l.text ++ flat_map line (shares_left l.share-iterator) ≡ string_bytes l.initial.text ++ flat_map line (shares_left l.initial.share-iterator)

@@ -1,25 +1,19 @@
-use Rattle.std.proofs.Common.{◌≡◌, ℕ, ◌+◌, ◌-◌, set, replicate, sym, ap, ◌∙◌, arith}
-use Rattle.std.proofs.lemmas.List.{length-replicate, replicate_more}
-use Rattle.rows.specs.Written.{written}
-use Rattle.rows.proofs.Written.{written_none, written_push}
+-- That the words are written over with zeros. Assumes nothing.
+use Rattle.std.proofs.Common.{◌≡◌, ℕ, ◌+◌, ◌-◌, length, take, drop, replicate, ap, ◌∙◌, arith}
+use borrow.Rule.Slice.PartMut.{put_mid}
+use Rattle.std.proofs.lemmas.List.{length-drop, length-replicate, length-take}
+use Rattle.rows.proofs.Written.{put_written}
 use Rattle.rows.proofs.clear.Goals as goal
-
-pub loop-i-init : goal.loop-i-init
-loop-i-init c =
-    let e : 0 ≡ c.args.at - c.args.at = omega arith in
-    sym (written_none c.args.at c.args.row.now) ∙ ap (λ n. written c.args.at (replicate n 0) c.args.row.now) e
-
-pub loop-i-preserved : goal.loop-i-preserved
-loop-i-preserved c =
-    let at = c.args.at in
-    let i = c.loop-i.i in
-    let n = i - at in
-    let e : n + 1 ≡ i + 1 - at = omega arith in
-    ap (λ r. set r i 0) c.loop-i.invariant
-    ∙ written_push at i (replicate n 0) c.args.row.now 0 (omega (arith, length-replicate {A = ℕ} n 0))
-    ∙ ap (λ r. written at r c.args.row.now) (replicate_more n 0 ∙ ap (λ m. replicate m 0) e)
 
 pub returns : goal.returns
 returns c =
-    let e : c.loop-i.i - c.args.at ≡ c.args.count = omega arith in
-    record { left = c.loop-i.invariant ∙ ap (λ n. written c.args.at (replicate n 0) c.args.row.now) e }
+    let row = c.args.row.now in
+    let at = c.args.at in
+    let many = at + c.args.count - at in
+    let long : length (take many (drop at row)) ≡ c.args.count = simp (length-take, length-drop) (omega arith) in
+    let zeros : c.fill.new.self ≡ replicate c.args.count 0 = c.fill.ensures.after (λ y e. e) ∙ ap (λ n. replicate n 0) long in
+    record {
+      left =
+          ap (put_mid at many row) zeros
+          ∙ put_written at many (replicate c.args.count 0) row (omega arith) (omega (arith, length-replicate {A = ℕ} c.args.count 0));
+    }

@@ -1,14 +1,15 @@
-use Rattle.service.proofs.Estates.{number_replied}
+use Rattle.std.proofs.Common.{sym, ◌∙◌}
+use Rattle.service.proofs.Stages.{stage_replied, not_taken}
 use Rattle.service.proofs.serve.Goals as goal
 
-pub returns-in-Born : goal.returns-in-Born
-returns-in-Born c = rw c.in-Born.is (record { replied = λ ok. number_replied _ _ _ _ _ _ _ (c.bear.ensures.served ok) c.put_number.ensures.put })
+pub returns-then-not-takes : goal.returns-then-not-takes
+returns-then-not-takes g c =
+    record {
+      replied = λ ok. not_taken g.S.Stage.can c.args.memory.now c.args.answer.now c.args.request ok (sym c.takes.ensures ∙ c.if-not-takes.true);
+    }
 
-pub returns-in-Wed : goal.returns-in-Wed
-returns-in-Wed c = rw c.in-Wed.is (record { replied = λ ok. number_replied _ _ _ _ _ _ _ (c.wed.ensures.served ok) c.put_number-in-Wed.ensures.put })
-
-pub returns-in-Parted : goal.returns-in-Parted
-returns-in-Parted c = rw c.in-Parted.is (record { replied = λ ok. number_replied _ _ _ _ _ _ _ (c.part.ensures.served ok) c.put_number-in-Parted.ensures.put })
-
-pub returns-in-Dies : goal.returns-in-Dies
-returns-in-Dies c = rw c.in-Dies.is (record { replied = λ ok. number_replied _ _ _ _ _ _ _ (c.bury.ensures.served ok) c.put_number-in-Dies.ensures.put })
+pub returns : goal.returns
+returns g c =
+    record {
+      replied = λ ok. stage_replied g.S.Stage.can _ _ _ _ _ (sym c.takes.ensures ∙ c.if-not-takes.false) _ (c.take.ensures.replied ok);
+    }

@@ -5,16 +5,16 @@ use Rattle.service.proofs.Estates.{estate_not_there, estate_beyond, estate_withi
 use Rattle.service.proofs.settle.Goals as goal
 
 pub returns-in_default : goal.returns-in_default
-returns-in_default c = record { replied = λ ok. estate_not_there c.args.memory.now c.args.answer.now c.args.who ok c.in_default.ensures.cases }
+returns-in_default g c = record { replied = λ ok. estate_not_there c.args.memory.now c.args.answer.now c.args.who ok c.in_default.ensures.cases }
 
 pub settle_any-requires : goal.settle_any-requires
-settle_any-requires c =
+settle_any-requires g c =
     let l = length-family c.args.memory.now in
     let found = c.in-Some.ensures.cases.0 in
     record { room = c.requires.room; there = omega arith; bytes = omega arith }
 
 pub returns-in_default-settle_any : goal.returns-in_default-settle_any
-returns-in_default-settle_any c =
+returns-in_default-settle_any g c =
     let ws = c.args.memory.now in
     let found = c.in-Some.ensures.cases in
     let room : length (family_in ws) ≤ limit_in ws = let l = length-family ws in let r = c.requires.room.1 in omega arith in
@@ -25,7 +25,7 @@ returns-in_default-settle_any c =
     }
 
 pub returns : goal.returns
-returns c =
+returns g c =
     let ws = c.args.memory.now in
     let found = c.in-Some.ensures.cases in
     let room : length (family_in ws) ≤ limit_in ws = let l = length-family ws in let r = c.requires.room.1 in omega arith in

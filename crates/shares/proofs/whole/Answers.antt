@@ -6,8 +6,8 @@ use Rattle.shares.specs.Work.{parts_in}
 use Rattle.shares.proofs.Multiples.{length-row, multiple_lead, number_lead, number_many, number_some, row_end, row_off, row_on, word_some}
 use Rattle.shares.proofs.whole.Goals as goal
 
-pub returns-then-parts_listed-gt-MOST_PARTS : goal.returns-then-parts_listed-gt-MOST_PARTS
-returns-then-parts_listed-gt-MOST_PARTS c =
+pub returns-then-parts_listed-from : goal.returns-then-parts_listed-from
+returns-then-parts_listed-from c =
     let ps = parts_in c.args.work.now 0 c.args.count in
     let row = whole_row c.args.lead c.args.times ps in
     let listed = length-row c.args.work.now c.args.lead c.args.times c.args.count in

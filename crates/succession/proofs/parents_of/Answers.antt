@@ -12,7 +12,7 @@ returns-in_default c =
     record {
       value = λ n k f s work rest e le.
           let l = limit_laid c.args.memory.now n k (person_row f) (link_row f) s work rest e in
-          sym (ap (λ z. parents_at f z) (⊎_elim (λ z. z) (λ z. absurd (omega arith)) c.in_default.ensures.cases));
+          (λ i. record { mother = c.default.ensures.0 i; father = c.default.ensures.1 i }) ∙ sym (ap (λ z. parents_at f z) (⊎_elim (λ z. z) (λ z. absurd (omega arith)) c.in_default.ensures.cases));
     }
 
 pub returns : goal.returns
@@ -21,7 +21,7 @@ returns c =
     record {
       value = λ n k f s work rest e le.
           let l = limit_laid c.args.memory.now n k (person_row f) (link_row f) s work rest e in
-          let q : law_person c.read-someone.result ≡ person f c.in-Some.who =
-          c.read-someone.ensures.value ∙ person_laid c.args.memory.now n k f (link_row f) s work rest c.in-Some.who e (omega (arith, found.1)) in
+          let q : law_person c.read-mother.result ≡ person f c.in-Some.who =
+          c.read-mother.ensures.value ∙ person_laid c.args.memory.now n k f (link_row f) s work rest c.in-Some.who e (omega (arith, found.1)) in
           (λ i. record { mother = (q i).mother; father = (q i).father }) ∙ sym (ap (λ z. parents_at f z) found.0);
     }

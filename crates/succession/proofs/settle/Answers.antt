@@ -1,4 +1,4 @@
-use Rattle.std.proofs.Common.{◌≡◌, ℕ, ◌+◌, ◌-◌, ◌*◌, List, ◌++◌, length, get_or, replicate, sym, ap, ◌∙◌, arith}
+use Rattle.std.proofs.Common.{◌≡◌, ℕ, ◌+◌, ◌-◌, ◌*◌, List, ◌++◌, length, get_or, replicate, Some, None, sym, ap, ◌∙◌, arith}
 use Rattle.law.specs.Family.{Person, person}
 use Rattle.rows.proofs.Written.{get_or-written_before, get_or-put_before}
 use Rattle.theory.specs.Living.{alive}
@@ -9,7 +9,8 @@ use Rattle.people.specs.Layout.{work_words, person_row, count_in}
 use Rattle.people.proofs.Layouts.{limit_laid, person_laid, count_image}
 use Rattle.shares.specs.Parts.{whole_row}
 use Rattle.descent.proofs.Rows.{spare_words}
-use Rattle.succession.proofs.Settling.{there_more, spouse_within, begun_none, cut_none, cut_some, settled_beyond, handed_words, row_sound, settled_within}
+use Rattle.succession.proofs.Settling.{there_more, spouse_within, begun_none, starts_there, gone_relatives, settled_beyond, handed_words, row_sound, settled_within}
+use Rattle.succession.specs.Starts.{starts_row}
 use Rattle.succession.proofs.settle.Goals as goal
 
 pub returns-in_default : goal.returns-in_default
@@ -33,9 +34,13 @@ returns-in_default c =
           ap (λ (x : Person). x.spouse) (c.read-spouse.ensures.value ∙ person_laid ws n (length f) f (link_row f) (alive f) work rest who e (omega arith)) in
           let spouse = c.living_spouse.ensures.value n (length f) f (alive f) work rest who e read (omega (arith, spouse_within f who d.formed)) in
           let row = c.beside_spouse-beside.ensures.value f who spouse order ∙ sym (estate_already d.formed who d.dead).2 in
-          let gone = c.relatives.ensures.gone n f d.formed.rank (spare_words n) rest (begun_none ws n f rest who e d) d.parents there order in
+          let starts = c.starts_of-starts.ensures.value n f work rest e (there_more f n room d.parents) order in
+          let number = (c.beside_spouse-beside.ensures.numbers f who spouse order).0 in
+          let gone = gone_relatives n f (spare_words n) rest who beside.by (starts_row c.starts_of-starts.result) mem None starts
+          (c.in_default.ensures.gone n f d.formed.rank (spare_words n) rest (begun_none ws n f rest who e d)
+          (starts_there f d.formed.rank who beside.by (starts_row c.starts_of-starts.result) d.formed.ranked number starts)) in
           settled_beyond n f rest who beside.lead beside.times (kept_relatives f who beside.by) mem c.clear.new.row c.args.answer.now at row c.beside_spouse-beside.ensures.some
-          (cut_none n f (spare_words n) rest (kept_relatives f who beside.by) mem c.relatives.result c.in_default.ensures.value gone) (omega arith) c.clear.ensures.left;
+          gone (omega arith) c.clear.ensures.left;
     }
 
 pub returns : goal.returns
@@ -61,8 +66,11 @@ returns c =
           let spouse = c.living_spouse.ensures.value n (length f) f (alive f) work rest who e read (omega (arith, spouse_within f who d.formed)) in
           let row = kept_relatives f who beside.by in
           let is = c.beside_spouse-beside.ensures.value f who spouse order ∙ sym (estate_already d.formed who d.dead).2 in
-          let gone = cut_some n f (spare_words n) rest row mem count c.relatives.result c.in-Some.ensures.value
-          (c.relatives.ensures.gone n f d.formed.rank (spare_words n) rest (begun_none ws n f rest who e d) d.parents there order) in
+          let starts = c.starts_of-starts.ensures.value n f work rest e (there_more f n room d.parents) order in
+          let number = (c.beside_spouse-beside.ensures.numbers f who spouse order).0 in
+          let gone = gone_relatives n f (spare_words n) rest who beside.by (starts_row c.starts_of-starts.result) mem (Some count) starts
+          (c.in-Some.ensures.gone n f d.formed.rank (spare_words n) rest (begun_none ws n f rest who e d)
+          (starts_there f d.formed.rank who beside.by (starts_row c.starts_of-starts.result) d.formed.ranked number starts)) in
           let start : at ≡ 130 + 8 * n = omega arith in
           let persons : count_in ws ≡ length f = ap count_in e ∙ count_image n f rest in
           let many = gone.0 in

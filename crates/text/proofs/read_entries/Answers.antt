@@ -1,10 +1,17 @@
 -- The lines of a text. Assumes nothing.
-use Rattle.std.proofs.Common.{◌≡◌, ℕ, ◌-◌, ◌<◌, ◌≤◌, List, [], ◌∷◌, ◌++◌, length, Ok, Err, vec_items, Result, sym, ap, ◌∙◌, arith}
+use Rattle.std.proofs.Common.{rules, eqb, ◌≡◌, ℕ, ◌-◌, ◌<◌, ◌≤◌, List, [], ◌∷◌, ◌++◌, length, Ok, Err, vec_items, Result, sym, ap, ◌∙◌, arith}
 use Rattle.std.proofs.lemmas.List.{map_push, length-map, length_push}
 use Rattle.lines.specs.Grammar.{Line, said_by}
 use Rattle.lines.specs.declared.Entry.{Entry}
 use Rattle.text.specs.declared.Fault.{Fault}
 use Rattle.text.specs.Reading.{fault, Next, said_in, next_line, lines_in}
+use Rattle.std.specs.Slice.Iter.{split_inclusive_rest}
+use Rattle.std.proofs.lemmas.List.Sorted.{answers_always}
+use Rattle.std.proofs.lemmas.Result.{err_from_is_err_and, IfOk-from_err}
+use Rattle.text.specs.declared.Reason.{Reason}
+use Rattle.text.specs.Outcomes.{FirstLine, next_said, with_line}
+use Rattle.text.proofs.FirstLines.{first_line}
+use Rattle.text.proofs.Failing.{told_line}
 use Rattle.text.proofs.Collecting.{next_few, lines_more, lines_fault, lines_all}
 use Rattle.text.proofs.read_entries.Goals as goal
 
@@ -17,30 +24,59 @@ module _ (es later : List Entry) (bs : List ℕ) (P : Result (List Line) Fault) 
         omega (arith, next_few (said_in es) bs x (sym n), length-map es (λ y. said_by y), ap length q, length_push es e),
       )
 
-pub loop-rest-preserved : goal.loop-rest-preserved
-loop-rest-preserved c =
-    let es = vec_items c.loop-rest.entries in
-    let x : Next = record { line = said_by c.in-Ok.entry; rest = c.in-Ok.behind.now } in
-    let bs = c.loop-rest.rest.now in
-    one_more es (vec_items c.push.new.self) bs (lines_in 65 c.args.input.now []) c.in-Ok.entry x c.in_ok-push-in-Ok.ensures.items (λ i. x.line) (omega arith)
-    (c.in-Ok.ensures.value ∙ ap (λ (ys : List Entry). next_line (said_in ys) bs) c.as_slice.ensures.value) c.loop-rest.invariant.0
+-- the line that was read, or why it is refused
+given : (i : ℕ) (rest : List ℕ) (r : Result Entry Reason) (x : Entry) (P : Result Next Reason) → Ok x ≡ with_line i r → next_said rest r ≡ P → next_said rest (Ok x) ≡ P
+given i rest (Ok q) x P e h = let same : x ≡ q = cc in ap (λ (y : Entry). next_said rest (Ok y)) same ∙ h
+given i rest (Err r) x P e h = absurd (grind arith)
 
-pub returns-in-Err : goal.returns-in-Err
-returns-in-Err c =
-    let es = vec_items c.loop-rest.entries in
-    let bs = c.loop-rest.rest.now in
-    let r = c.in-Err.reason in
+refused : (i : ℕ) (rest : List ℕ) (r : Result Entry Reason) (e : Fault) (P : Result Next Reason) → Err e ≡ with_line i r → next_said rest r ≡ P →
+    (x : Reason) × (Err x ≡ P) × (e ≡ fault i x)
+refused i rest (Ok q) e P q' h = absurd (grind arith)
+refused i rest (Err r) e P q' h = (r, h, cc)
+
+pub loop-line-preserved : goal.loop-line-preserved
+loop-line-preserved c =
+    let es = vec_items c.loop-line.entries in
+    let steps = c.in-Some.ensures.steps in
+    let bs = split_inclusive_rest c.loop-line.line-iterator in
+    let behind = split_inclusive_rest c.next.new.self in
+    let first : FirstLine bs c.in-Some.line.now behind =
+    first_line bs c.in-Some.line.now behind steps.1.0 steps.0 steps.1.1 (steps.1.2 (λ b. eqb b 10) (answers_always _ _ _ (λ f a r g h. search rules))).1
+    in
+    let x : Next = record { line = said_by c.in_ok-entry.entry; rest = behind } in
+    let got = given _ behind c.read_entry.result c.in_ok-entry.entry _ c.in_ok-entry.ensures.value (c.read_entry.ensures.value bs behind first) in
+    let more =
+    one_more es (vec_items c.push.new.self) bs (lines_in 65 c.args.input.now []) c.in_ok-entry.entry x c.in_ok-push.ensures.items (λ i. x.line) steps.2
+    (got ∙ ap (λ (ys : List Entry). next_line (said_in ys) bs) c.as_slice.ensures.value) c.loop-line.invariant.value
+    in
+    record { next = search rules; ends = search rules; value = more.0; few = more.1 }
+
+pub returns-in_err-entry : goal.returns-in_err-entry
+returns-in_err-entry c =
+    let es = vec_items c.loop-line.entries in
+    let steps = c.in-Some.ensures.steps in
+    let bs = split_inclusive_rest c.loop-line.line-iterator in
+    let behind = split_inclusive_rest c.next.new.self in
+    let first : FirstLine bs c.in-Some.line.now behind =
+    first_line bs c.in-Some.line.now behind steps.1.0 steps.0 steps.1.1 (steps.1.2 (λ b. eqb b 10) (answers_always _ _ _ (λ f a r g h. search rules))).1
+    in
+    let p = err_from_is_err_and c.from_residual.result c.from_residual.ensures.1 in
+    let r = refused _ behind c.read_entry.result c.in_err-entry.field-0.0 _ c.in_err-entry.ensures.value (c.read_entry.ensures.value bs behind first) in
     record {
       value =
-          ap (λ (n : ℕ). Err (fault n r)) (omega (arith, c.len.ensures, c.loop-rest.entries.ok.0, length-map es (λ y. said_by y)))
-          ∙ lines_fault (said_in es) bs (lines_in 65 c.args.input.now []) r (omega arith) (omega (arith, length-map es (λ y. said_by y), c.loop-rest.invariant.1))
-          (sym (c.in-Err.ensures.value ∙ ap (λ (ys : List Entry). next_line (said_in ys) bs) c.as_slice.ensures.value)) c.loop-rest.invariant.0;
-      few = tt;
+          told_line _ c.from_residual.result (lines_in 65 c.args.input.now []) c.in_err-entry.field-0.0 p
+          (ap Err r.2
+          ∙ (ap (λ (n : ℕ). Err (fault n r.0)) (omega (arith, c.len-number.ensures, c.loop-line.entries.ok.0, length-map es (λ y. said_by y)))
+          ∙ lines_fault (said_in es) bs (lines_in 65 c.args.input.now []) r.0 steps.2 (omega (arith, length-map es (λ y. said_by y), c.loop-line.invariant.few))
+          (sym (r.1 ∙ ap (λ (ys : List Entry). next_line (said_in ys) bs) c.as_slice.ensures.value)) c.loop-line.invariant.value));
+      few = IfOk-from_err c.from_residual.result _ c.from_residual.ensures.0;
     }
 
 pub returns : goal.returns
 returns c =
     record {
-      value = lines_all (said_in (vec_items c.loop-rest.entries)) c.loop-rest.rest.now (lines_in 65 c.args.input.now []) (omega arith) c.loop-rest.invariant.0;
-      few = c.loop-rest.invariant.1;
+      value =
+          lines_all (said_in (vec_items c.loop-line.entries)) (split_inclusive_rest c.loop-line.line-iterator) (lines_in 65 c.args.input.now [])
+          (omega (arith, c.in-None.ensures.steps.0)) c.loop-line.invariant.value;
+      few = c.loop-line.invariant.few;
     }

@@ -3,5 +3,5 @@ use Rattle.ways.specs.Rows.{family_of}
 use Rattle.ways.proofs.Marks.{seen}
 use Rattle.ways.proofs.living_lines.Given as goal
 
-abbrev pub invariant-loop-step : goal.invariant-loop-step
-invariant-loop-step l = vec_items l.lives ≡ seen (family_of l.family) l.decedent l.step
+abbrev pub invariant-loop : goal.invariant-loop
+invariant-loop l = vec_items l.lives ≡ seen (family_of l.family) l.decedent l.counter

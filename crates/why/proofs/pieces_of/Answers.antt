@@ -1,41 +1,35 @@
-use Rattle.std.proofs.Common.{◌≡◌, ◌<◌, ◌≤◌, List, ◌++◌, map, length, get_or, vec_items, sym, ap, ◌∙◌, subst, arith}
-use Rattle.std.proofs.lemmas.List.{append-nil}
-use Rattle.ways.specs.Laws.{way_pieces}
+use Rattle.std.proofs.Common.{ℕ, ◌*◌, ◌/◌, List, map, filter, eqb, sum, rules, sym, ap, ◌∙◌, arith, vec_items}
+use Rattle.std.proofs.lemmas.Iterator.{YieldsList-from_map, YieldsList-from_slice}
+use Rattle.std.proofs.lemmas.Iterator.Consumers.{YieldsList-from_filter, YieldsList-at}
+use borrow.Author.Tests.{tests}
 use Rattle.ways.specs.Ways.{counted}
-use Rattle.ways.specs.declared.Way.{Way}
+use Rattle.ways.specs.Rows.{law_ways}
+use Rattle.ways.proofs.Laws.{way_pieces_append}
 use Rattle.reasons.specs.Estates.{lead_ways}
-use Rattle.why.proofs.Heirs.{so_far_none, so_far_all, pieces_more}
+use Rattle.ways.specs.declared.Way.{Way}
+use Rattle.why.proofs.Heirs.{Adds, adds_all, all_pieces}
 use Rattle.why.proofs.pieces_of.Goals as goal
-
-pub loop-way-init : goal.loop-way-init
-loop-way-init c = λ _.
-    let e = c.args.estate.now in
-    c.spouse_pieces-sum.ensures.value
-    ∙ ap (λ rs. way_pieces e.whole rs c.args.heir)
-    (sym (ap (λ rs. map (counted 1) (lead_ways e.spouse) ++ rs) (so_far_none e.up (vec_items e.ways)) ∙ append-nil (map (counted 1) (lead_ways e.spouse))))
-
-pub loop-way-preserved : goal.loop-way-preserved
-loop-way-preserved c = λ fits.
-    let e = c.args.estate.now in
-    let same = c.as_slice-way-items.ensures.value in
-    let x = c.way-item.result in
-    let i = c.loop-way.way-index in
-    let more =
-    pieces_more e.up (vec_items e.ways) e.whole c.args.heir i x (map (counted 1) (lead_ways e.spouse))
-    (subst (λ (ws : List Way). i < length ws) same c.loop-way-test.true) (subst (λ (ws : List Way). x ≡ get_or ws i x) same c.way-item.is) in
-    let here = c.amount_to.ensures.value in
-    let sum = c.loop-way.invariant (omega arith) in
-    let add = c.saturating_add-sum.ensures in
-    omega arith
 
 pub returns : goal.returns
 returns c =
     let e = c.args.estate.now in
-    let all =
-    so_far_all e.up (vec_items e.ways) c.loop-way.way-index
-    (subst (λ (ws : List Way). length ws ≤ c.loop-way.way-index) c.as_slice-way-items.ensures.value c.loop-way-test.false) in
+    let w = c.args.heir in
+    let k : Way → ℕ = λ x. e.up * (e.whole / x.by) in
+    let lead = map (counted 1) (lead_ways e.spouse) in
+    let base = c.spouse_pieces-spouse.result in
+    let added : Adds base (map k (filter (λ (x : Way). eqb x.who w) c.deref.result.now)) c.fold.result =
+    adds_all base c.fold.result c.fold.ensures.ran
+    (YieldsList-from_map _ k
+    (YieldsList-at c.map.ensures.source
+    (YieldsList-from_filter _ (λ (x : Way). eqb x.who w) (YieldsList-at c.filter.ensures.source (YieldsList-from_slice c.deref.result.now cc)) c.filter.ensures.closure (λ x r q h. search (rules, tests))))
+    c.map.ensures.closure (λ x r q h. search rules))
+    (λ a x b q h. search rules) in
     record {
       value = λ fits.
-          subst (λ rs. way_pieces e.whole (map (counted 1) (lead_ways e.spouse) ++ rs) c.args.heir < 18446744073709551616 →
-          c.loop-way.sum ≡ way_pieces e.whole (map (counted 1) (lead_ways e.spouse) ++ rs) c.args.heir) all c.loop-way.invariant fits;
+          let parts = way_pieces_append e.whole w lead (map (counted e.up) (law_ways (vec_items e.ways))) in
+          let all =
+          all_pieces e.whole w e.up (vec_items e.ways) ∙ ap (λ (ws : List Way). sum (map k (filter (λ (x : Way). eqb x.who w) ws))) (sym c.deref.ensures.value) in
+          let start = c.spouse_pieces-spouse.ensures.value in
+          let z = added (omega arith) in
+          omega arith;
     }

@@ -3,7 +3,7 @@ use Rattle.std.proofs.lemmas.List.{append-nil, map-append}
 use Rattle.why.specs.Explained.{LinePart, explanation, explanations, parts_to, lowest_terms}
 use Rattle.why.proofs.Heirs.{so_far_none, so_far_all, found_here, found_elsewhere}
 use Rattle.why.proofs.put_ways.Goals as goal
-use Rattle.why.proofs.put_ways.Goals.{then-way-heir+in_ok-reason+in_ok-push, else-way-heir}
+use Rattle.why.proofs.put_ways.Goals.{then-way-heir+in_ok-explain+in_ok-push, else-way-heir}
 
 pub loop-way-init : goal.loop-way-init
 loop-way-init c =
@@ -16,13 +16,13 @@ loop-way-preserved c =
     let before = explanations (vec_items c.loop-way.found) in
     let x = c.way-item.result in
     elim c.if-way-heir.branch [
-      | then-way-heir+in_ok-reason+in_ok-push w ↦
+      | then-way-heir+in_ok-explain+in_ok-push w ↦
           found_here c.args.up c.args.ways.now c.args.heir c.loop-way.way-index x entry before (explanations (vec_items c.if-way-heir.found)) c.loop-way-test.true c.way-item.is
           w.if-way-heir.true c.loop-way.invariant
           (ap (λ v. explanations (vec_items v)) w.found-is ∙ ap explanations w.in_ok-push.ensures.items
-          ∙ map-append explanation (vec_items c.loop-way.found) (w.in_ok-reason.reason ∷ [])
+          ∙ map-append explanation (vec_items c.loop-way.found) (_ ∷ [])
           ∙ ap (λ (e : LinePart). before ++ (e ∷ []))
-          (w.in_ok-reason.ensures.value ∙ ap (λ l. record { line = l; part = lowest_terms c.args.up x.by }) w.as_slice.ensures.value))
+          (w.in_ok-explain.ensures.value ∙ ap (λ l. record { line = l; part = lowest_terms c.args.up x.by }) w.deref.ensures.value))
       | else-way-heir w ↦
           ap (λ v. explanations (vec_items v)) w.found-is
           ∙ found_elsewhere c.args.up c.args.ways.now c.args.heir c.loop-way.way-index x entry before c.loop-way-test.true c.way-item.is w.if-way-heir.false c.loop-way.invariant

@@ -1,18 +1,13 @@
-use Rattle.std.proofs.Common.{map, sym, ap, ◌∙◌}
-use Rattle.ways.specs.Laws.{way_pieces}
-use Rattle.ways.specs.Ways.{counted}
-use Rattle.reasons.specs.Estates.{lead_ways}
-use Rattle.why.proofs.Heirs.{one_piece, no_piece}
+use Rattle.std.proofs.Common.{rules}
+use borrow.Author.Tests.{tests}
+use Rattle.why.proofs.Heirs.{in_each, spouse_piece}
 use Rattle.why.proofs.spouse_pieces.Goals as goal
 
-pub returns-in-Some : goal.returns-in-Some
-returns-in-Some c =
+pub returns : goal.returns
+returns c =
     record {
       value =
-          c.amount_to.ensures.value ∙ sym (one_piece c.args.whole c.args.heir c.in-Some.part)
-          ∙ ap (λ s. way_pieces c.args.whole (map (counted 1) (lead_ways s)) c.args.heir) (sym c.in-Some.is);
+          spouse_piece c.args.whole c.args.heir c.args.spouse c.filter.result c.map_or.result
+          (in_each c.args.spouse (λ x. x) (λ p k. search (rules, tests)) c.filter.ensures)
+          (in_each c.filter.result (λ x. x) (λ p k. search (rules, tests)) c.map_or.ensures);
     }
-
-pub returns-in-None : goal.returns-in-None
-returns-in-None c =
-    record { value = sym (no_piece c.args.whole c.args.heir) ∙ ap (λ s. way_pieces c.args.whole (map (counted 1) (lead_ways s)) c.args.heir) (sym c.in-None.is) }

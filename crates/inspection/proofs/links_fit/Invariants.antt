@@ -1,6 +1,0 @@
-use Rattle.std.proofs.Common.{◌≡◌, ℕ, ◌<◌, true}
-use Rattle.inspection.specs.Words.{link_fits}
-use Rattle.inspection.proofs.links_fit.Given as goal
-
-abbrev pub invariant-loop-who : goal.invariant-loop-who
-invariant-loop-who l = (p : ℕ) → p < l.who → link_fits l.memory p ≡ true
