@@ -2,8 +2,9 @@
 // with how many parts each line has and the least number that these divide; then pieces are handed down along the list.
 #![tactic(auto)]
 
-ghost use Rattle.std.specs.Prelude.{◌≡◌, ℕ, suc, ◌+◌, ◌*◌, ◌<◌, ◌≤◌, Bool, List, ◌∷◌, length, drop, if◌then◌else◌, sum, filter, nat_eq, unwrap_or, IfSome, slice_index, slice_set};
+ghost use Rattle.std.specs.Prelude.{◌≡◌, ℕ, suc, ◌+◌, ◌*◌, ◌<◌, ◌≤◌, Bool, List, ◌∷◌, length, drop, if◌then◌else◌, sum, filter, nat_eq, nat_lt, None, Some, unwrap_or, IfSome, slice_index, slice_set};
 ghost use Rattle.std.specs.Iterator.{at_most};
+ghost use Rattle.std.specs.Option.{option_and_then};
 ghost use Rattle.law.specs.Family.{Family, Part as LawPart, children};
 ghost use Rattle.theory.specs.Living.{alive};
 ghost use Rattle.theory.specs.Multiples.{lcm};
@@ -17,7 +18,7 @@ ghost use Rattle.amounts.specs.Statements.{Listing};
 ghost use Rattle.passes.specs.Rows.{Rows, Rowed, row_of, row_number, with_row, with_pieces};
 ghost use Rattle.passes.specs.Listings.{order_row, counts_row, multiples_row, listed_rows, no_list, Ready, LineListed};
 ghost use Rattle.passes.specs.Heirs.{heirs_of, left_rows};
-ghost use Rattle.passes.specs.Walking.{Ahead, Stepped};
+ghost use Rattle.passes.specs.Walking.{Ahead, Passed, Stepped};
 
 use shares::{HEIRS, MOST_PARTS, PIECES};
 
@@ -65,42 +66,21 @@ fn put_word(memory: &mut [u32], row: Row, index: u32, word: u32)
     memory[at] = word;
 }
 
-// The link to the first of somebody's children, from a link on, whose line lives; 0 where there is none.
-fn living_from(memory: &[u32], who: u32, link: u32) -> u32
+// The link to the first of the children among whose lines what comes to somebody is divided; 0 for whoever lives, who has it themself.
+fn first_below(memory: &[u32], who: u32) -> u32
     requires room { Roomy memory.now }
     requires there { who < limit_in memory.now }
-    ensures value { (n : ℕ) (f : Family) (work rest : List ℕ) (i : ℕ) → Held memory.now n f (alive f) work rest → link ≡ first_of (drop i (children f who))
-        → result ≡ first_of (filter (alive f) (drop i (children f who))) }
-{
-    let mut left = people::Children::from_link(memory, who, link);
-    people::link_to(left.find(|child| living::lives(memory, *child)))
-}
-
-// The link to the first of the lines among which what comes to somebody is divided.
-fn first_line(memory: &[u32], who: u32) -> u32
-    requires room { Roomy memory.now }
-    requires there { who < limit_in memory.now }
-    ensures value { (n : ℕ) (f : Family) (work rest : List ℕ) → Held memory.now n f (alive f) work rest → result ≡ first_of (divided_among f who) }
+    ensures value { (n : ℕ) (f : Family) (work rest : List ℕ) → Held memory.now n f (alive f) work rest
+        → (j : ℕ) × (result ≡ first_of (drop j (children f who))) × (divided_among f who ≡ filter (alive f) (drop j (children f who))) }
 {
     if people::read(memory, who).lives {
         return 0;
     }
-    living_from(memory, who, people::first_child(memory, who))
+    people::first_child(memory, who)
 }
 
-// The link to the next of these lines behind one of them.
-fn next_line(memory: &[u32], who: u32, child: u32) -> u32
-    requires room { Roomy memory.now }
-    requires there { who < limit_in memory.now }
-    requires child { child < limit_in memory.now }
-    ensures value { (n : ℕ) (f : Family) (work rest : List ℕ) (i : ℕ) → Held memory.now n f (alive f) work rest → i < length (divided_among f who)
-        → slice_index (divided_among f who) i ≡ child → result ≡ first_of (drop (i + 1) (divided_among f who)) }
-{
-    living_from(memory, who, people::next_child(memory, who, child))
-}
-
-// A walk over the lines among which what comes to somebody is divided: the link to the line that comes next, and how many turns it may still take.
-// It borrows no words, so that they may be written on the way.
+// A walk over the lines among which what comes to somebody is divided: the link to the child that comes next, and how many turns it may still take.
+// It borrows no words, so that they may be written on the way, and looks at each child once.
 #[derive(Drop)]
 struct Walk {
     who: u32,
@@ -109,7 +89,7 @@ struct Walk {
 }
 
 impl Walk {
-    // Before the first of these lines. There are no more of them than persons.
+    // Before the first of these lines. There are no more children than persons.
     fn new(memory: &[u32], who: u32) -> Walk
         requires room { Roomy memory.now }
         requires there { who < limit_in memory.now }
@@ -118,9 +98,21 @@ impl Walk {
     {
         Walk {
             who,
-            link: first_line(memory, who),
+            link: first_below(memory, who),
             turns: memory[1],
         }
+    }
+
+    // Goes on to the next child, whether their line lives or not.
+    fn child(&mut self, memory: &[u32]) -> Option<u32>
+        requires room { Roomy memory.now }
+        requires there { self.old.who < limit_in memory.now }
+        ensures step { Passed memory.now self.old result self.new }
+    {
+        let child = people::somebody(memory[0], self.link)?;
+        self.turns = self.turns.checked_sub(1)?;
+        self.link = people::next_child(memory, self.who, child);
+        Some(child)
     }
 
     // Goes on to the next of these lines.
@@ -129,10 +121,12 @@ impl Walk {
         requires there { self.old.who < limit_in memory.now }
         ensures step { Stepped memory.now self.old result self.new }
     {
-        let child = people::somebody(memory[0], self.link)?;
-        self.turns = self.turns.checked_sub(1)?;
-        self.link = next_line(memory, self.who, child);
-        Some(child)
+        while let Some(child) = self.child(memory) {
+            if living::lives(memory, child) {
+                return Some(child);
+            }
+        }
+        None
     }
 }
 
@@ -199,6 +193,7 @@ pub fn together(one: Line, other: Line) -> Line
 // So many times a number, None where that or the number doesn't fit a word.
 pub fn product(times: u32, number: Option<u32>) -> Option<u32>
     ensures value { unwrap_or result 0 ≡ word_or_zero (times * unwrap_or number 0) }
+    ensures exact { result ≡ option_and_then (λ n. if nat_lt (times * n) 4294967296 then Some (times * n) else None) number }
 {
     times.checked_mul(number?)
 }
@@ -209,6 +204,7 @@ pub fn entry(memory: &[u32], who: u32) -> Line
     requires there { who < limit_in memory.now }
     ensures value { (n : ℕ) (f : Family) (ps : List LawPart) (rows : Rows) (spare rest : List ℕ) → Rowed memory.now n f ps rows spare rest
         → (result.parts ≡ slice_index rows.counts who) × (unwrap_or result.multiple 0 ≡ slice_index rows.multiples who) }
+    ensures some { IfSome result.multiple (λ m. 0 < m) }
 {
     let multiple = word_at(memory, Row::Multiples, who);
     Line {

@@ -47,24 +47,32 @@ pub enum Reason {
     SecondSpouse,
 }
 
-// The reason in words.
+impl Reason {
+    // The reason in words.
+    pub fn words(self) -> &'static str
+        ensures value { result.now ≡ reason_words self }
+    {
+        match self {
+            Reason::Unreadable => "the line can't be read",
+            Reason::NoNewline => "the line has no newline at its end",
+            Reason::TooMany => "there are more than 64 persons",
+            Reason::NameTwice => "an earlier line has this name",
+            Reason::ParentNotThere => "a parent is not there",
+            Reason::LaterParent => "a parent stands in a later line",
+            Reason::OwnParent => "somebody is their own parent",
+            Reason::SameParents => "the mother is the father",
+            Reason::SpouseNotThere => "the spouse is not there",
+            Reason::OwnSpouse => "somebody is their own spouse",
+            Reason::SecondSpouse => "the spouse has another spouse",
+        }
+    }
+}
+
 impl fmt::Display for Reason {
     ghost output = { λ r. Some (reason_words r) };
 
     fn fmt<W: fmt::Write>(&self, f: &mut fmt::Formatter<W>) -> fmt::Result {
-        match self {
-            Reason::Unreadable => write!(f, "the line can't be read"),
-            Reason::NoNewline => write!(f, "the line has no newline at its end"),
-            Reason::TooMany => write!(f, "there are more than 64 persons"),
-            Reason::NameTwice => write!(f, "an earlier line has this name"),
-            Reason::ParentNotThere => write!(f, "a parent is not there"),
-            Reason::LaterParent => write!(f, "a parent stands in a later line"),
-            Reason::OwnParent => write!(f, "somebody is their own parent"),
-            Reason::SameParents => write!(f, "the mother is the father"),
-            Reason::SpouseNotThere => write!(f, "the spouse is not there"),
-            Reason::OwnSpouse => write!(f, "somebody is their own spouse"),
-            Reason::SecondSpouse => write!(f, "the spouse has another spouse"),
-        }
+        write!(f, "{}", self.words())
     }
 }
 
@@ -169,11 +177,9 @@ fn place_of(entries: &[Entry], name: &str) -> Option<usize>
 
 // What a line says, given with its end, behind those that were read.
 fn read_entry<'a>(entries: &[Entry<'a>], line: &'a [u8]) -> Result<Entry<'a>, Reason>
+    requires few { length entries.now < 64 }
     ensures value { (bs behind : List ℕ) → FirstLine bs line.now behind → next_said behind result ≡ law_next_line (said_in entries.now) bs }
 {
-    if entries.len() >= MOST_PERSONS {
-        return Err(Reason::TooMany);
-    }
     let line = line.strip_suffix(b"\n").ok_or(Reason::NoNewline)?;
     let entry = lines::read_line(line)?;
     if place_of(entries, entry.name).is_some() {
@@ -182,16 +188,25 @@ fn read_entry<'a>(entries: &[Entry<'a>], line: &'a [u8]) -> Result<Entry<'a>, Re
     Ok(entry)
 }
 
-// All lines of a text.
+// All lines of a text. What stands behind the 64th is refused without being read.
 fn read_entries<'a>(heap: Global, input: &'a [u8]) -> Result<Vec<Entry<'a>>, Failure>
     ensures value { Told (λ v. said_in v.items) result (lines_in 65 input.now []) }
     ensures few { IfOk result (λ v. length v.items ≤ 64) }
 {
     let mut entries = Vec::new(heap);
-    for line in input.split_inclusive(|byte| *byte == b'\n') {
+    let mut read = 0;
+    let lines = input.split_inclusive(|byte| *byte == b'\n');
+    for line in lines.take(MOST_PERSONS) {
         let number = entries.len();
         let entry = with_line(number, read_entry(entries.as_slice(), line))?;
         entries.push(entry)?;
+        read += line.len();
+    }
+    if read < input.len() {
+        return Err(Failure::Line(Fault {
+            line: MOST_PERSONS,
+            reason: Reason::TooMany,
+        }));
     }
     Ok(entries)
 }

@@ -10,17 +10,12 @@ use Rattle.lines.specs.Grammar.{said_by}
 use Rattle.text.specs.declared.Reason.TheVariants.{NoNewline}
 use Rattle.text.specs.Outcomes.{next_said as outcome}
 use Rattle.text.specs.Reading.{said_in}
-use Rattle.text.proofs.Collecting.{next_many, next_cut, next_said, next_used, next_new}
+use Rattle.text.proofs.Collecting.{next_cut, next_said, next_used, next_new}
 use Rattle.text.proofs.read_entry.Goals as goal
 
 -- what is before the newline, where the line ends with one
 abbrev Stripped : List ℕ → Option (Bor (List ℕ)) → Type 0
 Stripped l r = MatchOption r ((x : List ℕ) → l ≢ x ++ (10 ∷ [])) (λ x. l ≡ x.now ++ (10 ∷ []))
-
-pub returns-then-entries-ge-MOST_PERSONS : goal.returns-then-entries-ge-MOST_PERSONS
-returns-then-entries-ge-MOST_PERSONS c =
-    let es = c.args.entries.now in
-    record { value = λ bs behind h. next_many (said_in es) bs (omega (arith, length-map es (λ e. said_by e))) }
 
 pub returns-in_err-line : goal.returns-in_err-line
 returns-in_err-line c =
