@@ -21,7 +21,7 @@ pub overflow_add-result : goal.overflow_add-result
 overflow_add-result c = let h = fits _ _ _ c.in_ok-at.ensures.cases in search rules
 
 pub slice_bounds-result-count : goal.slice_bounds-result-count
-slice_bounds-result-count c = fits _ _ _ c.in_ok-at.ensures.cases
+slice_bounds-result-count c = omega (arith, fits _ _ _ c.in_ok-at.ensures.cases)
 
 pub slice_bounds-result-start : goal.slice_bounds-result-start
 slice_bounds-result-start c = let h = fits _ _ _ c.in_ok-at.ensures.cases in search rules
